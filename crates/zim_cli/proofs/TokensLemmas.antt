@@ -1,0 +1,51 @@
+-- Lines have the tokens of one list at most, and none where a line is stuck.
+use Rattle.std.proofs.Common.{◌≡◌, ℕ, List, [], ◌∷◌, ◌++◌, Ok, Err, refl, ap, sym, ◌∙◌}
+use Rattle.zim_fault.specs.declared.faults.Fault.{Fault}
+use Rattle.zim_fault.specs.declared.kinds.Kind.TheVariants.{BadByte}
+use Rattle.zim_fault.specs.declared.tokens.Placed.{Placed}
+use Rattle.zim_lex.specs.declared.lines.Line.{Line}
+use Rattle.zim_lex.specs.Cut.{IsStuck, cut}
+use Rattle.zim_lex.specs.Tokens.{tokens_at, AreLineTokens, AreTokens, none, more, IsFirstStuck, here, later}
+use Rattle.zim_lex.proofs.CutLemmas.{is_cut, is_stuck, one_cut}
+
+one_line : (line : Line) (a b : List Placed) → AreLineTokens line a → AreLineTokens line b → a ≡ b
+one_line line a b first second =
+    first.tokens_are
+    ∙ ap (λ (ps : List (List ℕ)). tokens_at line.place ps) (one_cut line.bytes first.pieces second.pieces first.cut second.cut)
+    ∙ sym second.tokens_are
+
+no_lines : (tokens : List Placed) → AreTokens [] tokens → [] ≡ tokens
+no_lines _ none = refl
+
+-- the tokens of the first line and of the others
+pub record Parts (line : Line) (lines : List Line) (tokens : List Placed) : Type 0 where
+  pub first : List Placed
+  pub others : List Placed
+  pub of_line : AreLineTokens line first
+  pub of_lines : AreTokens lines others
+  pub whole : tokens ≡ first ++ others
+
+parts : (line : Line) (lines : List Line) (tokens : List Placed) → AreTokens (line ∷ lines) tokens → Parts line lines tokens
+parts line lines _ (more _ _ first others at rest) = record { first = first; others = others; of_line = at; of_lines = rest; whole = refl }
+
+-- two lists of tokens of the same lines are one
+pub one_tokens : (lines : List Line) (a b : List Placed) → AreTokens lines a → AreTokens lines b → a ≡ b
+one_tokens _ _ b none second = no_lines b second
+one_tokens _ _ b (more line lines first others at rest) second =
+    let p : Parts line lines b = parts line lines b second in
+    ap (λ (front : List Placed). front ++ others) (one_line line first p.first at p.of_line)
+    ∙ ap (λ (back : List Placed). p.first ++ back) (one_tokens lines others p.others rest p.of_lines)
+    ∙ sym p.whole
+
+stuck_line : (line : Line) (tokens : List Placed) → IsStuck line.bytes → AreLineTokens line tokens → ⊥
+stuck_line line tokens stuck are =
+    let one : cut line.bytes ≡ Err BadByte = is_stuck line.bytes stuck in
+    let other : cut line.bytes ≡ Ok are.pieces = is_cut are.pieces line.bytes are.cut in
+    cc
+
+-- lines of which one is stuck have no tokens
+pub stuck_without : (lines : List Line) (fault : Fault) (tokens : List Placed) → IsFirstStuck lines fault → AreTokens lines tokens → ⊥
+stuck_without _ _ tokens (here line lines stuck) are =
+    let p : Parts line lines tokens = parts line lines tokens are in stuck_line line p.first stuck p.of_line
+stuck_without _ _ tokens (later line lines first fault at stuck) are =
+    let p : Parts line lines tokens = parts line lines tokens are in stuck_without lines fault p.others stuck p.of_lines

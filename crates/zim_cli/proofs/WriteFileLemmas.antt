@@ -1,0 +1,100 @@
+-- A file that is begun, put to and ended holds what was put, and a stop on the way leaves a first part of it.
+use Rattle.std.proofs.Common.{◌≡◌, ℕ, ◌≤◌, List, [], Option, None, Some, option_map, Result, Ok, Err, inl, inr, refl, subst, true, false, is_err, IsErrOf, ◌∙◌, ap, arith}
+use Rattle.std.specs.Prelude.{⊤}
+use Rattle.std.specs.FinMap as map
+use Rattle.std.proofs.lemmas.List.{append-nil}
+use Rattle.zim_cli.proofs.FilesLemmas.{get_inserted, insert_again}
+use Rattle.zim_gate.specs.Counts.{Rose, IsFrontOf}
+use Rattle.zim_gate.specs.Folder.{FolderState, Files, Begins, Appends, StopsIn, Puts, Ends, put_to, appended_to, emptied}
+use Rattle.zim_gate.specs.declared.stops.BeginStop.{BeginStop}
+use Rattle.zim_gate.specs.declared.stops.BeginStop.TheVariants as stop
+use Rattle.zim_gate.specs.declared.stops.Failed.{Failed}
+use Rattle.zim_cli.specs.WriteFile.{HoldsOnly, WritesFile}
+
+-- to put bytes to a file that was just begun is to make it hold them
+put_to-emptied : (name bytes : List ℕ) (files : Files) → put_to (Some name) bytes (emptied name files) ≡ map.insert files name bytes
+put_to-emptied name bytes files =
+    ap (appended_to name bytes (emptied name files)) (get_inserted files name [])
+    ∙ insert_again files name [] bytes
+
+held-put : (name bytes : List ℕ) (held : Option Files) →
+    option_map (put_to (Some name) bytes) (option_map (emptied name) held) ≡ option_map (λ (files : Files). map.insert files name bytes) held
+held-put name bytes None = refl
+held-put name bytes (Some files) = ap Some (put_to-emptied name bytes files)
+
+-- what was put since a file was begun is what it holds
+holds-put : (before begun now : FolderState) (name bytes : List ℕ) → Begins before begun name (Ok tt) → Appends begun now bytes → HoldsOnly before now name bytes
+holds-put before begun now name bytes begins appends =
+    appends.held
+    ∙ ap (λ (b : Option (List ℕ)). option_map (put_to b bytes) begun.held) begins.ok_begun
+    ∙ ap (λ (held : Option Files). option_map (put_to (Some name) bytes) held) begins.ok
+    ∙ held-put name bytes before.held
+
+-- a text is a front of itself
+whole-front : (text : List ℕ) → IsFrontOf text text
+whole-front text = record { rest = []; whole = append-nil text }
+
+-- a count that rose has risen from each earlier value
+Rose-from : (a b c : ℕ) → a ≤ b → Rose b c → Rose a c
+Rose-from a b c h r = elim r [ inl lt ↦ inl (omega arith) | inr last ↦ inr last ]
+
+-- a result that is well is no error
+well-no_err : {A E : Type 0} (a : A) (e : E) → IsErrOf (Ok a) e → ⊥
+well-no_err a e h = cc
+
+put_stopped : (before begun now : FolderState) (name text : List ℕ) → Begins before begun name (Ok tt) → StopsIn begun now text →
+    WritesFile before now name text (Err stop.Failed)
+put_stopped before begun now name text begins stops = record {
+  ok = tt;
+  err = inr (stops.bytes, stops.front, holds-put before begun now name stops.bytes begins stops.appends);
+  failed = λ _. Rose-from before.write_faults begun.write_faults now.write_faults begins.write_faults stops.rose;
+}
+
+-- a put failed after the file was begun
+pub put_failed : (before begun now : FolderState) (name text : List ℕ) (b : Result ⊤ BeginStop) (p : Result ⊤ Failed) → b ≡ Ok tt → is_err p ≡ true →
+    Begins before begun name b → Puts begun now text p → WritesFile before now name text (Err stop.Failed)
+put_failed before begun now name text b (Ok _) well bad begins puts = absurd (cc)
+put_failed before begun now name text b (Err _) well bad begins puts =
+    put_stopped before begun now name text (subst (λ (r : Result ⊤ BeginStop). Begins before begun name r) well begins) puts.err
+
+appended : (begun now : FolderState) (text : List ℕ) (p : Result ⊤ Failed) → is_err p ≡ false → Puts begun now text p → Appends begun now text
+appended begun now text (Ok _) good puts = puts.ok
+appended begun now text (Err _) good puts = absurd (cc)
+
+end_stopped : (before begun put now : FolderState) (name text : List ℕ) → Begins before begun name (Ok tt) → Appends begun put text →
+    Rose put.write_faults now.write_faults → now.held ≡ put.held → WritesFile before now name text (Err stop.Failed)
+end_stopped before begun put now name text begins appends rose held = record {
+  ok = tt;
+  err = inr (text, whole-front text, held ∙ holds-put before begun put name text begins appends);
+  failed = λ _.
+      Rose-from before.write_faults put.write_faults now.write_faults
+      (omega (arith, begins.write_faults, appends.write_faults))
+      rose;
+}
+
+ended_well : (before begun put now : FolderState) (name text : List ℕ) → Begins before begun name (Ok tt) → Appends begun put text →
+    now.held ≡ put.held → WritesFile before now name text (Ok tt)
+ended_well before begun put now name text begins appends held = record {
+  ok = held ∙ holds-put before begun put name text begins appends;
+  err = tt;
+  failed = λ h. absurd (well-no_err tt stop.Failed h);
+}
+
+-- the file was put whole, and its end failed
+pub end_failed : (before begun put now : FolderState) (name text : List ℕ) (b : Result ⊤ BeginStop) (p e : Result ⊤ Failed) (f : Failed) → b ≡ Ok tt → is_err p ≡ false → e ≡ Err f →
+    Begins before begun name b → Puts begun put text p → Ends put now e → WritesFile before now name text (Err stop.Failed)
+end_failed before begun put now name text b p e f well good bad begins puts ends =
+    end_stopped before begun put now name text
+    (subst (λ (r : Result ⊤ BeginStop). Begins before begun name r) well begins)
+    (appended begun put text p good puts)
+    ((subst (λ (r : Result ⊤ Failed). Ends put now r) bad ends).failed)
+    ends.held
+
+-- the file was put whole and ended
+pub file_written : (before begun put now : FolderState) (name text : List ℕ) (b : Result ⊤ BeginStop) (p e : Result ⊤ Failed) → b ≡ Ok tt → is_err p ≡ false →
+    Begins before begun name b → Puts begun put text p → Ends put now e → WritesFile before now name text (Ok tt)
+file_written before begun put now name text b p e well good begins puts ends =
+    ended_well before begun put now name text
+    (subst (λ (r : Result ⊤ BeginStop). Begins before begun name r) well begins)
+    (appended begun put text p good puts)
+    ends.held

@@ -1,0 +1,5 @@
+use Rattle.zim_cli.proofs.BuildLaws.{stands_none}
+use Rattle.zim_cli.proofs.builder.Builder.new.Goals as goal
+
+pub returns-clause-stands : goal.returns-clause-stands
+returns-clause-stands c = rw (c.new.ensures.empty, c.new-2.ensures.empty, c.new-3.ensures) stands_none

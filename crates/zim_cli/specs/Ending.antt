@@ -1,0 +1,35 @@
+-- The status and the line of each ending of a run.
+use Rattle.std.specs.Prelude.{ℕ, ◌<◌, ◌⊎◌, List, [], ◌++◌, length, codes, ⊤}
+use Rattle.zim_gate.specs.FaultLine.{fault_text}
+use Rattle.zim_gate.specs.Sink.{SinkState, SinkAppends, SinkStopsIn}
+use Rattle.zim_cli.specs.declared.ending.Ending.{Ending}
+use Rattle.zim_cli.specs.declared.ending.Ending.TheVariants.{Done, Usage, Refused, Unread, Unwritten, Memory}
+use Rattle.zim_cli.specs.declared.status.Status.{Status}
+use Rattle.zim_cli.specs.declared.status.Status.TheVariants as status
+
+-- A fault's file is among the files.
+abbrev pub IsReportable : Ending → Type 0
+IsReportable (Refused fault files) = fault.place.file < length files
+IsReportable _ = ⊤
+
+-- The status with which a run ends.
+abbrev pub status_of : Ending → Status
+status_of Done = status.Done
+status_of Usage = status.Usage
+status_of (Refused fault files) = status.Refused
+status_of (Unread name) = status.ReadFault
+status_of (Unwritten name) = status.WriteFault
+status_of Memory = status.Memory
+
+-- The line that a run has for the error stream; none where it is done.
+abbrev pub line_of : Ending → List ℕ
+line_of Done = []
+line_of Usage = codes "usage: zimplc MODEL --out BASE\n"
+line_of (Refused fault files) = fault_text files fault
+line_of (Unread name) = codes "zimplc: cannot read " ++ (name ++ codes "\n")
+line_of (Unwritten name) = codes "zimplc: cannot write " ++ (name ++ codes "\n")
+line_of Memory = codes "zimplc: out of memory\n"
+
+-- A sink took the line, or a first part of it where its count rose.
+abbrev pub TakesLine : SinkState → SinkState → List ℕ → Type 0
+TakesLine before now line = SinkAppends before now line ⊎ SinkStopsIn before now line

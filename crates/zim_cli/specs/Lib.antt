@@ -1,0 +1,17 @@
+pub mod Many
+pub mod PlainBuild
+pub mod PlainForm
+pub mod PlainMeaning
+pub mod PlainReader
+pub mod PlainRows
+pub mod PlainSystem
+pub mod Job
+pub mod Status
+pub mod Reading
+pub mod LpFile
+pub mod WriteFile
+pub mod Ending
+pub mod Lexed
+pub mod Compile
+pub mod Run
+pub mod Headline

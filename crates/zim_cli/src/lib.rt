@@ -1,0 +1,27 @@
+//! The command: which words are a job, and what a run does with it.
+//!
+//! [`run`] is the call that the program makes, and its contract is the theorem about the program:
+//! how a run ends, what it leaves in the folder, and what the written file says of the model
+//! (`specs/Headline.antt`, which leads to the rest). A model is text in plain form, whose grammar is
+//! `specs/PlainForm.antt` and whose meaning is `specs/PlainMeaning.antt`; its parser is private.
+#![tactic(auto)]
+
+mod builder;
+mod command;
+mod compiling;
+mod ending;
+mod jobs;
+mod plain_form;
+mod reader;
+mod rows;
+mod statement;
+mod status;
+mod stop;
+mod words;
+mod write_file;
+
+pub use command::run;
+pub use ending::Ending;
+pub use jobs::Job;
+pub use status::{Status, exit_number};
+pub use words::job;

@@ -1,0 +1,8 @@
+mod Appending
+mod Counting
+mod Finding
+pub mod Going
+pub mod PenLaws
+pub mod SinkPenLaws
+pub mod MemoryPuts
+mod Slices

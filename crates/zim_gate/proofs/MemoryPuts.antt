@@ -1,0 +1,118 @@
+-- What a put does to a folder in memory.
+use Rattle.std.proofs.Common.{◌≡◌, ℕ, ◌≤◌, Bool, true, false, List, [], ◌∷◌, ◌++◌, min, length, take, drop, Option, Some, Ok, Err, IsSome, refl, sym, ap, ◌∙◌, subst, arith, inl, inr}
+use Rattle.std.proofs.lemmas.List.{take-append-drop, length-take-le, append-nil}
+use Rattle.std.proofs.Math.ListN.{drop_of_length-le}
+use Rattle.std.proofs.lemmas.Bool.{cases_lt}
+use Rattle.zim_gate.specs.declared.stops.Failed.{Failed}
+use Rattle.zim_gate.specs.declared.stored.Stored.{Stored}
+use Rattle.zim_gate.specs.Counts.{Rose, count_on}
+use Rattle.zim_gate.specs.Folder.{FolderState, Appends, Puts, put_to, appended_to}
+use Rattle.zim_gate.specs.Stored.{files_of, first_appended, begun_name}
+use Rattle.zim_gate.proofs.Appending.{Appends-nothing, insert_again, get_inserted}
+
+-- what is known of a folder in memory, by its parts
+abbrev pub known : Bool → List Stored → List ℕ → ℕ → ℕ → ℕ → Option ℕ → FolderState
+known begun files rest wrote read_faults write_faults promise = record {
+  held = Some (files_of files);
+  rest = Some rest;
+  begun = begun_name begun files;
+  wrote = Some wrote;
+  read_faults = read_faults;
+  write_faults = write_faults;
+  faultless_below = promise;
+}
+
+-- to append to the first file is to put to the name that is begun
+held_after : (begun : Bool) (files : List Stored) (bytes : List ℕ) → IsSome (begun_name begun files) →
+    files_of (first_appended files bytes) ≡ put_to (begun_name begun files) bytes (files_of files)
+held_after true (file ∷ files) bytes some =
+    sym (ap (appended_to file.name bytes (files_of (file ∷ files))) (get_inserted (files_of files) file.name file.content.bytes)
+    ∙ insert_again (files_of files) file.name file.content.bytes (file.content.bytes ++ bytes))
+held_after true [] bytes some = cc
+held_after false files bytes some = cc
+
+-- the name that is begun stays
+name_after : (begun : Bool) (files : List Stored) (bytes : List ℕ) → begun_name begun (first_appended files bytes) ≡ begun_name begun files
+name_after true (file ∷ files) bytes = refl
+name_after true [] bytes = refl
+name_after false files bytes = refl
+
+-- a front that is as long as the list is the list
+take_whole : (piece : List ℕ) (n : ℕ) → length piece ≤ n → take n piece ≡ piece
+take_whole piece n h = sym (append-nil (take n piece)) ∙ ap (λ rest. take n piece ++ rest) (sym (drop_of_length-le piece h)) ∙ take-append-drop n piece
+
+-- what fits of a piece: its front of so many bytes
+fitting : (piece : List ℕ) (left count : ℕ) → count ≡ min (length piece) left → take count piece ≡ take left piece
+fitting piece left count e = elim (cases_lt left (length piece)) [
+  | inl below ↦ ap (λ k. take k piece) (omega (arith, e))
+  | inr past ↦ take_whole piece count (omega (arith, e)) ∙ sym (take_whole piece left past)
+]
+
+module _ (begun : Bool) (files : List Stored) (rest : List ℕ) (wrote read_faults write_faults : ℕ) (promise : Option ℕ) where
+  -- a put that is refused before it appends
+  pub memory_refuses : (piece : List ℕ) (faults : ℕ) (kept : Option ℕ) (e : Failed) → write_faults ≤ faults → Rose write_faults faults → kept ≡ promise →
+      Puts (known begun files rest wrote read_faults write_faults promise) (known begun files rest wrote read_faults faults kept) piece (Err e)
+  memory_refuses piece faults kept e more rose same = record {
+    ok = tt;
+    err = record {
+      bytes = [];
+      front = record { rest = piece; whole = refl };
+      appends =
+          let nothing = Appends-nothing (known begun files rest wrote read_faults write_faults promise) in
+          record {
+            held = nothing.held;
+            wrote = nothing.wrote;
+            rest = refl;
+            begun = refl;
+            read_faults = refl;
+            write_faults = more;
+            faultless_below = same;
+          };
+      rose = rose;
+    };
+  }
+
+  module _ (now : List Stored) (piece : List ℕ) (left count v faults : ℕ) (kept : Option ℕ) (some : IsSome (begun_name begun files))
+      (is : now ≡ first_appended files (take count piece)) (counts : count ≡ min (length piece) left) (counted : v ≡ count_on count wrote)
+      (more : write_faults ≤ faults) (same : kept ≡ promise) where
+    -- a put appends the bytes that it counts
+    appends_counted : Appends (known begun files rest wrote read_faults write_faults promise) (known begun now rest v read_faults faults kept) (take count piece)
+    appends_counted =
+        let within : count ≤ length piece = omega (arith, counts) in
+        record {
+          held = ap Some (ap files_of is ∙ held_after begun files (take count piece) some);
+          wrote = ap Some (counted ∙ ap (λ k. count_on k wrote) (sym (length-take-le count piece within)));
+          rest = refl;
+          begun = ap (begun_name begun) is ∙ name_after begun files (take count piece);
+          read_faults = refl;
+          write_faults = more;
+          faultless_below = same;
+        }
+
+    -- a put appends what fits
+    pub memory_fits : Appends (known begun files rest wrote read_faults write_faults promise) (known begun now rest v read_faults faults kept) (take left piece)
+    memory_fits =
+        subst (λ bytes. Appends (known begun files rest wrote read_faults write_faults promise) (known begun now rest v read_faults faults kept) bytes)
+        (fitting piece left count counts) appends_counted
+
+    -- a put that passes the room stops
+    pub memory_stops : (e : Failed) → Rose write_faults faults →
+        Puts (known begun files rest wrote read_faults write_faults promise) (known begun now rest v read_faults faults kept) piece (Err e)
+    memory_stops e rose = record {
+      ok = tt;
+      err = record {
+        bytes = take count piece;
+        front = record { rest = drop count piece; whole = take-append-drop count piece };
+        appends = appends_counted;
+        rose = rose;
+      };
+    }
+
+    -- a put that fits appends the piece
+    pub memory_takes : length piece ≤ count →
+        Puts (known begun files rest wrote read_faults write_faults promise) (known begun now rest v read_faults faults kept) piece (Ok tt)
+    memory_takes all = record {
+      ok = subst (λ bytes. Appends (known begun files rest wrote read_faults write_faults promise) (known begun now rest v read_faults faults kept) bytes)
+          (take_whole piece count all) appends_counted;
+      err = tt;
+    }

@@ -1,0 +1,9 @@
+-- What is known of the folder on disk: the name that is begun, and its counts.
+use Rattle.std.specs.Prelude.{option_map}
+use Rattle.zim_gate.specs.declared.disk_folders.DiskFolder.{DiskFolder}
+use Rattle.zim_gate.specs.Folder.{FolderState}
+use Rattle.zim_gate.specs.Untold.{untold_folder}
+
+-- what is known of a folder on disk
+abbrev pub disk_state : {R F D : Type 0} → DiskFolder R F D → FolderState
+disk_state folder = untold_folder (option_map (λ it. it.name) folder.begun) folder.read_faults folder.write_faults

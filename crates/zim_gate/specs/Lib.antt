@@ -1,0 +1,13 @@
+pub mod Counts
+pub mod Folder
+pub mod Sink
+pub mod Pen
+pub mod SinkPen
+pub mod FaultLine
+pub mod Limited
+pub mod Stored
+pub mod MemoryFolder
+pub mod MemoryFolderLaws
+pub mod MemorySink
+pub mod Untold
+pub mod DiskFolder

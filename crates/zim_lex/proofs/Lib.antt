@@ -1,0 +1,13 @@
+pub mod ClassLemmas
+pub mod CutLemmas
+pub mod FrontLemmas
+pub mod LineLemmas
+pub mod LinesLemmas
+pub mod LongestLemmas
+pub mod PieceLemmas
+pub mod ReadingLemmas
+pub mod SpansLemmas
+pub mod SpelledLemmas
+pub mod TextLemmas
+pub mod TokenLemmas
+pub mod TokensLemmas

@@ -1,0 +1,12 @@
+pub mod Causes
+pub mod Classes
+pub mod Cut
+pub mod Lines
+pub mod Loading
+pub mod Pieces
+pub mod Reading
+pub mod Signs
+pub mod Spelled
+pub mod Statements
+pub mod Text
+pub mod Tokens

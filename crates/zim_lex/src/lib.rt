@@ -1,0 +1,28 @@
+//! From a model's file to its statements: the text is read and cut into lines, the lines into
+//! tokens, and the tokens into the statements that semicolons end.
+//!
+//! Each step is one call: [`load`] reads the file, [`lex`] gives the tokens of its lines, and
+//! [`statements`] gives the range of tokens of each statement. Every call stops at the first fault
+//! in the order of the text.
+#![tactic(auto)]
+
+mod faults;
+mod laws;
+mod lines;
+mod models;
+mod pieces;
+mod reading;
+mod signs;
+mod spans;
+mod text;
+mod tokens;
+
+pub use faults::{LexFault, LoadFault};
+pub use laws::cutting_is_exact;
+pub use lines::{Line, Loaded, Span};
+pub use models::load;
+pub use spans::statements;
+pub use tokens::lex;
+
+#[cfg(test)]
+mod tests;

@@ -1,0 +1,62 @@
+ghost use Rattle.std.specs.Prelude.{◌≡◌, IfOk};
+ghost use Rattle.zim_lex.specs.Lines.{AreWithin};
+ghost use Rattle.zim_lex.specs.Reading.{OnlyRead, IsReadOf};
+ghost use Rattle.zim_gate.specs.Counts.{Rose};
+ghost use Rattle.zim_lex.specs.declared.reading.ReadStop.TheVariants as stops;
+
+use crate::lines::Line;
+use crate::text::TextLines;
+use std::alloc::Global;
+use zim_fault::{Memory, Sequence};
+use zim_gate::Folder;
+
+/// How many bytes the files of a model may have together.
+pub const MOST_BYTES: usize = 67_108_864;
+
+/// How many bytes one call of the folder is asked for.
+const PIECE: usize = 4096;
+
+/// Why a file wasn't read to its end.
+#[derive(Drop)]
+pub enum ReadStop {
+    /// It has too many bytes; the line, from 1, of the first one that is too many.
+    Long(u32),
+    /// The folder failed.
+    Failed,
+    /// Memory was refused.
+    Memory,
+}
+
+impl From<Memory> for ReadStop {
+    ghost from_gives = { λ _ e. e ≡ stops.Memory };
+
+    fn from(_refused: Memory) -> ReadStop {
+        ReadStop::Memory
+    }
+}
+
+/// Reads the file that is open to its end. Its lines are numbered from 1, in the file 0.
+pub fn read_lines<F: Folder>(alloc: Global, folder: &mut F) -> Result<Sequence<Line>, ReadStop>
+    ensures only { OnlyRead (F.state folder.old) (F.state folder.new) }
+    ensures begun { (F.state folder.new).begun ≡ (F.state folder.old).begun }
+    ensures within { IfOk result (λ lines. AreWithin lines 1) }
+    ensures text { IsReadOf (F.state folder.old).rest (Rose (F.state folder.old).read_faults (F.state folder.new).read_faults) result }
+{
+    let mut text = TextLines::new(alloc);
+    let mut room = MOST_BYTES;
+    let mut buffer = [0; PIECE];
+    loop {
+        let Ok(count) = folder.read(&mut buffer) else {
+            return Err(ReadStop::Failed);
+        };
+        if count == 0 {
+            return Ok(text.finish()?);
+        }
+        if count > room {
+            text.add(&buffer[..room])?;
+            return Err(ReadStop::Long(text.line()));
+        }
+        text.add(&buffer[..count])?;
+        room -= count;
+    }
+}

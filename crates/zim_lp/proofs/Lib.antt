@@ -1,0 +1,11 @@
+pub mod Cutting
+pub mod Numbers
+pub mod Readable
+pub mod Sentences
+pub mod Parsing
+pub mod Examples
+pub mod File
+pub mod Meaning
+pub mod PlainFile
+pub mod Represent
+pub mod Pieces

@@ -1,0 +1,10 @@
+-- What was put so far.
+use Rattle.std.specs.Prelude.{map, flat_map}
+use Rattle.std.specs.List.{range_with_len}
+use Rattle.zim_lp.specs.FileText.{bound_text}
+use Rattle.zim_lp.specs.Text.{written_column}
+use Rattle.zim_gate.specs.Pen.{Writes}
+use Rattle.zim_lp.proofs.writer.put_column_bounds.Given as goal
+
+abbrev pub invariant-loop-index : goal.invariant-loop-index
+invariant-loop-index g l = Writes g.F.Folder.state l.initial.pen l.pen (flat_map bound_text (map written_column (range_with_len 1 l.index)))

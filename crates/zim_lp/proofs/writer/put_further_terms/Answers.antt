@@ -1,0 +1,16 @@
+-- One term more.
+use Rattle.std.proofs.Common.{ℕ, List, sym, subst}
+use Rattle.zim_gate.specs.Pen.{Writes}
+use Rattle.zim_gate.proofs.PenLaws.{◌▸◌, Writes-nothing}
+use Rattle.zim_lp.proofs.Pieces.{further_terms-next}
+use Rattle.zim_lp.proofs.writer.put_further_terms.Goals as goal
+
+pub loop-index-init : goal.loop-index-init
+loop-index-init g c = Writes-nothing c.args.pen.now
+
+pub loop-index-preserved : goal.loop-index-preserved
+loop-index-preserved g c =
+    subst
+    (λ (t : List ℕ). Writes g.F.Folder.state c.args.pen.now c.put_further_term.new.pen t)
+    (sym (further_terms-next 1 c.args.terms.now c.loop-index.index _ c.loop-index-test.true))
+    (c.loop-index.invariant ▸ c.put_further_term.ensures)

@@ -1,0 +1,140 @@
+//! Whole runs over a folder and sinks in memory, with what they leave there.
+
+use std::alloc::Global;
+use std::test::Fail;
+use zim_cli::{Status, run};
+use zim_fault::Bytes;
+use zim_gate::{MemoryFolder, MemorySink};
+
+/// The room of each written file and of each sink, in bytes, where a test needs no less.
+const ROOM: usize = 4096;
+
+/// A run that has ended, and what it left.
+#[derive(Drop)]
+struct Ran {
+    status: Status,
+    folder: MemoryFolder,
+    err: MemorySink,
+}
+
+/// Runs the command over a folder that holds the model `m.zpl`.
+fn outcome_of(alloc: Global, model: &[u8], words: &[&str], room: usize) -> Result<Ran, Fail> {
+    let mut files = Vec::new(alloc);
+    files.push((
+        Bytes::from_slice(alloc, b"m.zpl")?,
+        Bytes::from_slice(alloc, model)?,
+    ))?;
+    let mut folder = MemoryFolder::new(alloc, files, room, Vec::new(alloc))?;
+    let mut out = MemorySink::new(alloc, ROOM, Vec::new(alloc))?;
+    let mut err = MemorySink::new(alloc, ROOM, Vec::new(alloc))?;
+    let mut given = Vec::new(alloc);
+    for word in words {
+        given.push(String::from_str(alloc, word)?)?;
+    }
+    let status = run(alloc, given.as_slice(), &mut folder, &mut out, &mut err);
+    Ok(Ran {
+        status,
+        folder,
+        err,
+    })
+}
+
+/// The words of the usual run.
+const COMPILE: [&str; 3] = ["m.zpl", "--out", "m"];
+
+const TWO_VARIABLES: &[u8] = b"\\ zimplc
+Minimize
+ obj: 2 x1 + 3 x2
+Subject To
+ r1: 1 x1 + 1 x2 >= 1
+Bounds
+ x1 >= 0
+ x2 >= 0
+End
+";
+
+const NO_VARIABLE: &[u8] = b"\\ zimplc
+Minimize
+ obj: 0 one
+Subject To
+Bounds
+ 1 <= one <= 1
+End
+";
+
+#[test]
+fn two_variables_and_a_constraint(rt: HostRuntime) -> Result<(), Fail> {
+    let text = b"var x; var y; minimize c: 2*x+3*y; subto a: x+y >= 1;";
+    let ran = outcome_of(rt.alloc(), text, &COMPILE, ROOM)?;
+    assert!(rt; ran.status == Status::Done);
+    assert!(rt; ran.folder.bytes_of(b"m.lp") == Some(TWO_VARIABLES));
+    assert!(rt; ran.err.taken() == b"".as_slice());
+    Ok(())
+}
+
+#[test]
+fn an_empty_model(rt: HostRuntime) -> Result<(), Fail> {
+    let ran = outcome_of(rt.alloc(), b"", &COMPILE, ROOM)?;
+    assert!(rt; ran.status == Status::Done);
+    assert!(rt; ran.folder.bytes_of(b"m.lp") == Some(NO_VARIABLE));
+    Ok(())
+}
+
+#[test]
+fn words_that_are_no_job(rt: HostRuntime) -> Result<(), Fail> {
+    let none = outcome_of(rt.alloc(), b"", &[], ROOM)?;
+    assert!(rt; none.status == Status::Usage);
+    assert!(rt; none.err.taken() == b"usage: zimplc MODEL --out BASE\n".as_slice());
+    let own_output = outcome_of(rt.alloc(), b"", &["m.lp", "--out", "m"], ROOM)?;
+    assert!(rt; own_output.status == Status::Usage);
+    Ok(())
+}
+
+#[test]
+fn models_that_are_refused(rt: HostRuntime) -> Result<(), Fail> {
+    for text in [
+        "var x; subto a: x+x >= 1;",
+        "var x; subto a: x >= 1",
+        "var x; subto a: y >= 1;",
+        "var x; var x;",
+        "var x; minimize o: 0*x;",
+        "var x; minimize o: 1234567890123456789*x;",
+        "var min;",
+        "var \0;",
+    ] {
+        let ran = outcome_of(rt.alloc(), text.as_bytes(), &COMPILE, ROOM)?;
+        assert!(rt; ran.status == Status::Refused);
+        assert!(rt; ran.err.taken() == b"m.zpl:1: 5 Syntax\n".as_slice());
+        assert!(rt; ran.folder.bytes_of(b"m.lp") == None);
+    }
+    Ok(())
+}
+
+#[test]
+fn a_model_at_the_limit_and_one_past_it(rt: HostRuntime) -> Result<(), Fail> {
+    let mut text = vec![in rt.alloc(); b'#'; 67_108_864]?;
+    let most = outcome_of(rt.alloc(), text.as_slice(), &COMPILE, ROOM)?;
+    assert!(rt; most.status == Status::Done);
+    text.push(b'#')?;
+    let more = outcome_of(rt.alloc(), text.as_slice(), &COMPILE, ROOM)?;
+    assert!(rt; more.status == Status::Refused);
+    assert!(rt; more.err.taken() == b"m.zpl:1: 26 LongFile\n".as_slice());
+    Ok(())
+}
+
+#[test]
+fn a_model_that_is_missing(rt: HostRuntime) -> Result<(), Fail> {
+    let ran = outcome_of(rt.alloc(), b"", &["no.zpl", "--out", "m"], ROOM)?;
+    assert!(rt; ran.status == Status::ReadFault);
+    assert!(rt; ran.err.taken() == b"zimplc: cannot read no.zpl\n".as_slice());
+    Ok(())
+}
+
+#[test]
+fn a_file_without_room(rt: HostRuntime) -> Result<(), Fail> {
+    let ran = outcome_of(rt.alloc(), b"var x;", &COMPILE, 9)?;
+    assert!(rt; ran.status == Status::WriteFault);
+    assert!(rt; ran.err.taken() == b"zimplc: cannot write m.lp\n".as_slice());
+    assert!(rt; ran.folder.bytes_of(b"m.lp") == Some(b"\\ zimplc\n".as_slice()));
+    Ok(())
+}
