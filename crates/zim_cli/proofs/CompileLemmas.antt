@@ -161,7 +161,7 @@ stopped_long before now name fault opened r e is refuses loads =
     let at : Loads before now name (Err (loading.Fault fault opened)) = subst (λ (x : Result Loaded LoadFault). Loads before now name x) is loads in
     record {
       makes = refusal before now name LongFile e refuses (long_told before now name fault opened at);
-      held = at.only.held;
+      keeps = record { held = at.only.held; wrote = at.only.wrote };
       write_faults = at.only.write_faults;
     }
 
@@ -171,12 +171,12 @@ stopped_unread before now name other r e loads =
     let at : Loads before now name (Err (loading.Read other)) = subst (λ (x : Result Loaded LoadFault). Loads before now name x) e loads in
     record {
       makes = subst (λ (n : List ℕ). Makes before now name (Err (ending.Unread n))) (sym at.tells.unread) (unread (unread_told before now name other at));
-      held = at.only.held;
+      keeps = record { held = at.only.held; wrote = at.only.wrote };
       write_faults = at.only.write_faults;
     }
 
 pub stopped_memory : (before now : FolderState) (name : List ℕ) (r : Result Loaded LoadFault) → Loads before now name r → Compiles before now name (Err ending.Memory)
-stopped_memory before now name r loads = record { makes = no_memory; held = loads.only.held; write_faults = loads.only.write_faults }
+stopped_memory before now name r loads = record { makes = no_memory; keeps = record { held = loads.only.held; wrote = loads.only.wrote }; write_faults = loads.only.write_faults }
 
 has_system : (lines : List Line) (plain : PlainModel) → LinesParseTo lines plain → (text : List ℕ) → HasLines lines text → HasSystem plain text
 has_system lines plain parses text has = record {
@@ -198,7 +198,7 @@ compiled before now name loaded plain r e loads parses =
       makes = made plain
           (where_map before.held name (HasLines loaded.lines) (HasSystem plain) (has_system loaded.lines plain parses) (lines_told before now name loaded at))
           parses.says.writable;
-      held = at.only.held;
+      keeps = record { held = at.only.held; wrote = at.only.wrote };
       write_faults = at.only.write_faults;
     }
 
@@ -214,6 +214,6 @@ stopped_outside before now name loaded r e is refuses loads outside =
     record {
       makes = refusal before now name Syntax e refuses
           (where_map before.held name (HasLines loaded.lines) (λ text. IsRefusedFor text Syntax) (outside_text loaded.lines outside) (lines_told before now name loaded at));
-      held = at.only.held;
+      keeps = record { held = at.only.held; wrote = at.only.wrote };
       write_faults = at.only.write_faults;
     }

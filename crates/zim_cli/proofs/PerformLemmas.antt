@@ -1,8 +1,8 @@
 -- How a compilation and the writing of its file end a run.
-use Rattle.std.proofs.Common.{◌≡◌, ℕ, List, Option, None, Some, option_map, Result, Ok, Err, inl, inr, refl, sym, ◌∙◌, ap, subst, IfOk, arith, ◌≤◌, length, filter}
-use Rattle.std.specs.Prelude.{⊤}
+use Rattle.std.proofs.Common.{◌≡◌, ℕ, List, [], Option, None, Some, option_map, Result, Ok, Err, inl, inr, refl, sym, ◌∙◌, ap, subst, IfOk, arith, ◌≤◌, length, filter}
+use Rattle.std.specs.Prelude.{⊤, ◌⊎◌}
 use Rattle.std.specs.FinMap as map
-use Rattle.zim_gate.specs.Counts.{Rose}
+use Rattle.zim_gate.specs.Counts.{Rose, count_on}
 use Rattle.zim_gate.specs.Folder.{FolderState, Files}
 use Rattle.zim_gate.specs.declared.stops.BeginStop.{BeginStop}
 use Rattle.zim_gate.specs.declared.stops.BeginStop.TheVariants as stop
@@ -20,12 +20,12 @@ use Rattle.zim_cli.specs.declared.jobs.Job.TheVariants.{Compile}
 use Rattle.zim_cli.specs.Compile.{WhereTold, HasSystem, Makes, made, refused, unread, no_memory, Compiles}
 use Rattle.zim_cli.specs.Run as run
 use Rattle.zim_cli.specs.Run.{Ended, OfLpText, IsStopped, lp_name}
-use Rattle.zim_cli.specs.WriteFile.{HoldsOnly, IsStoppedAt, WritesFile}
+use Rattle.zim_cli.specs.WriteFile.{KeepsFiles, HoldsOnly, IsStoppedAt, WritesFile}
 use Rattle.zim_cli.proofs.CompileLemmas.{where_map}
 use Rattle.zim_cli.proofs.LpFileLemmas.{lp_of_system}
 
 -- a compilation that stopped ends the run
-stops_early : (before now : FolderState) (model base : List ℕ) (r : Result PlainModel Ending) (e : Ending) → r ≡ Err e → Makes before now model r → now.held ≡ before.held →
+stops_early : (before now : FolderState) (model base : List ℕ) (r : Result PlainModel Ending) (e : Ending) → r ≡ Err e → Makes before now model r → KeepsFiles before now →
     Ended (Some (Compile model base)) before now e
 stops_early before now model base _ e is (made plain told writable) held = absurd (cc)
 stops_early before now model base _ e is (refused kind why) held =
@@ -40,20 +40,25 @@ stops_early before now model base _ e is no_memory held =
 
 pub compile_stopped : (before now : FolderState) (model base : List ℕ) (r : Result PlainModel Ending) (e : Ending) → r ≡ Err e → Compiles before now model r →
     Ended (Some (Compile model base)) before now e
-compile_stopped before now model base r e is compiles = stops_early before now model base r e is compiles.makes compiles.held
+compile_stopped before now model base r e is compiles = stops_early before now model base r e is compiles.makes compiles.keeps
 
 -- memory was refused between the compilation and the writing
 pub name_refused : (before now : FolderState) (model base : List ℕ) (r : Result PlainModel Ending) → Compiles before now model r → Ended (Some (Compile model base)) before now ending.Memory
-name_refused before now model base r compiles = run.no_memory compiles.held
+name_refused before now model base r compiles = run.no_memory compiles.keeps
 
 -- what is said of the files before the writing is said of those before the compilation
-holds_since : (before between now : FolderState) (name bytes : List ℕ) → between.held ≡ before.held → HoldsOnly between now name bytes → HoldsOnly before now name bytes
-holds_since before between now name bytes same holds =
-    holds ∙ ap (λ (held : Option Files). option_map (λ (files : Files). map.insert files name bytes) held) same
+holds_since : (before between now : FolderState) (name bytes : List ℕ) → KeepsFiles before between → HoldsOnly between now name bytes → HoldsOnly before now name bytes
+holds_since before between now name bytes keeps holds = record {
+  held = holds.held ∙ ap (λ (held : Option Files). option_map (λ (files : Files). map.insert files name bytes) held) keeps.held;
+  wrote = holds.wrote ∙ ap (option_map (count_on (length bytes))) keeps.wrote;
+}
 
-stopped_since : (before between now : FolderState) (name text : List ℕ) → between.held ≡ before.held → IsStoppedAt between now name text → IsStoppedAt before now name text
-stopped_since before between now name text same (inl kept) = inl (kept ∙ same)
-stopped_since before between now name text same (inr (front, is, holds)) = inr (front, is, holds_since before between now name front same holds)
+kept_since : (before between now : FolderState) → KeepsFiles before between → KeepsFiles between now → KeepsFiles before now
+kept_since before between now first second = record { held = second.held ∙ first.held; wrote = second.wrote ∙ first.wrote }
+
+stopped_since : (before between now : FolderState) (name text : List ℕ) → KeepsFiles before between → IsStoppedAt between now name text → IsStoppedAt before now name text
+stopped_since before between now name text keeps (inl kept) = inl (kept_since before between now keeps kept)
+stopped_since before between now name text keeps (inr (front, is, holds)) = inr (front, is, holds_since before between now name front keeps holds)
 
 -- the text of a model's system says it
 says_system : (plain : PlainModel) (text : List ℕ) → HasSystem plain text → SaysPlain (lp_text plain.plain) plain.plain
@@ -67,7 +72,8 @@ of_lp_text : (plain : PlainModel) (Is : List ℕ → Type 0) → Is (lp_text pla
 of_lp_text plain Is is text has = record {
   model = has.model;
   read = has.read;
-  written = lp_text plain.plain;
+  system = plain.plain;
+  is_system = record { columns = has.says.columns; rows = has.says.rows; writable = has.says.writable; points = has.says.points; objective = has.says.objective };
   is_lp = lp_of_system has.model plain (lp_text plain.plain) has.says (says_system plain text has);
   is = is;
 }
@@ -75,7 +81,7 @@ of_lp_text plain Is is text has = record {
 -- what a compilation made
 pub record Made (before between : FolderState) (model : List ℕ) (plain : PlainModel) : Type 0 where
   pub writable : IsWritable plain.plain
-  pub held : between.held ≡ before.held
+  pub keeps : KeepsFiles before between
   pub write_faults : between.write_faults ≡ before.write_faults
   pub told : WhereTold before.held model (HasSystem plain)
 
@@ -86,13 +92,13 @@ of_file before between model plain by Is at =
     where_map before.held model (HasSystem plain) (OfLpText Is) (of_lp_text plain Is at) by.told
 
 made_from : (before between : FolderState) (model : List ℕ) (r : Result PlainModel Ending) (plain : PlainModel) → r ≡ Ok plain → Makes before between model r →
-    between.held ≡ before.held → between.write_faults ≡ before.write_faults → Made before between model plain
+    KeepsFiles before between → between.write_faults ≡ before.write_faults → Made before between model plain
 made_from before between model _ plain is (made other told writable) held faults =
     let same : other ≡ plain = cc in
     subst (λ (p : PlainModel). Made before between model p) same
     (record {
       writable = writable;
-      held = held;
+      keeps = held;
       write_faults = faults;
       told = told;
     })
@@ -101,7 +107,7 @@ made_from before between model _ plain is (unread why) held faults = absurd (cc)
 made_from before between model _ plain is no_memory held faults = absurd (cc)
 
 pub made_by : (before between : FolderState) (model : List ℕ) (r : Result PlainModel Ending) (plain : PlainModel) → r ≡ Ok plain → Compiles before between model r → Made before between model plain
-made_by before between model r plain is compiles = made_from before between model r plain is compiles.makes compiles.held compiles.write_faults
+made_by before between model r plain is compiles = made_from before between model r plain is compiles.makes compiles.keeps compiles.write_faults
 
 -- the file was written
 pub done_by : (before between now : FolderState) (model base name : List ℕ) (plain : PlainModel) (w : Result ⊤ BeginStop) → name ≡ lp_name base → w ≡ Ok tt → Made before between model plain →
@@ -110,13 +116,13 @@ done_by before between now model base name plain w named well by writes =
     let at : WritesFile between now name (lp_text plain.plain) (Ok tt) = subst (λ (x : Result ⊤ BeginStop). WritesFile between now name (lp_text plain.plain) x) well writes in
     run.done model base refl
     (of_file before between model plain by (HoldsOnly before now (lp_name base))
-    (subst (λ (n : List ℕ). HoldsOnly before now n (lp_text plain.plain)) named (holds_since before between now name (lp_text plain.plain) by.held at.ok)))
+    (subst (λ (n : List ℕ). HoldsOnly before now n (lp_text plain.plain)) named (holds_since before between now name (lp_text plain.plain) by.keeps at.ok)))
 
 stopped_by : (before between now : FolderState) (model base name : List ℕ) (plain : PlainModel) → name ≡ lp_name base → Made before between model plain →
     IsStoppedAt between now name (lp_text plain.plain) → IsStopped before now model base
 stopped_by before between now model base name plain named by stopped =
     of_file before between model plain by (IsStoppedAt before now (lp_name base))
-    (subst (λ (n : List ℕ). IsStoppedAt before now n (lp_text plain.plain)) named (stopped_since before between now name (lp_text plain.plain) by.held stopped))
+    (subst (λ (n : List ℕ). IsStoppedAt before now n (lp_text plain.plain)) named (stopped_since before between now name (lp_text plain.plain) by.keeps stopped))
 
 -- a call of writing failed
 pub unwritten_by : (before between now : FolderState) (model base name told : List ℕ) (plain : PlainModel) (w : Result ⊤ BeginStop) (s : BeginStop) → name ≡ told → told ≡ lp_name base → w ≡ Err s → s ≡ stop.Failed →
@@ -130,11 +136,18 @@ unwritten_by before between now model base name told plain w s same named stoppe
     (stopped_by before between now model base name plain (same ∙ named) by at.err))
 
 -- memory was refused by the begin
-pub begin_refused : (before between now : FolderState) (model base name : List ℕ) (plain : PlainModel) (w : Result ⊤ BeginStop) (s : BeginStop) → name ≡ lp_name base → w ≡ Err s → Made before between model plain →
-    WritesFile between now name (lp_text plain.plain) w → Ended (Some (Compile model base)) before now ending.Memory
-begin_refused before between now model base name plain w s named bad by writes =
-    let at : WritesFile between now name (lp_text plain.plain) (Err s) = subst (λ (x : Result ⊤ BeginStop). WritesFile between now name (lp_text plain.plain) x) bad writes in
-    run.no_memory_to_begin model base refl (stopped_by before between now model base name plain named by at.err)
+refused_at : (before between now : FolderState) (model base name : List ℕ) → name ≡ lp_name base → KeepsFiles before between →
+    KeepsFiles between now ⊎ HoldsOnly between now name [] → Ended (Some (Compile model base)) before now ending.Memory
+refused_at before between now model base name named keeps (inl kept) = run.no_memory (kept_since before between now keeps kept)
+refused_at before between now model base name named keeps (inr holds) =
+    run.no_memory_to_begin model base refl (subst (λ (n : List ℕ). HoldsOnly before now n []) named (holds_since before between now name [] keeps holds))
+
+pub begin_refused : (before between now : FolderState) (model base name : List ℕ) (plain : PlainModel) (w : Result ⊤ BeginStop) (s : BeginStop) → name ≡ lp_name base → w ≡ Err s → s ≡ stop.Memory →
+    Made before between model plain → WritesFile between now name (lp_text plain.plain) w → Ended (Some (Compile model base)) before now ending.Memory
+begin_refused before between now model base name plain w s named bad memory by writes =
+    let at : WritesFile between now name (lp_text plain.plain) (Err stop.Memory) =
+    subst (λ (x : Result ⊤ BeginStop). WritesFile between now name (lp_text plain.plain) x) (bad ∙ ap Err memory) writes in
+    refused_at before between now model base name named by.keeps (at.refused refl)
 
 -- the words are no job
 pub usage_by : {E : Type 0} (before : FolderState) (job : Option Job) (r : Result (Option Job) E) (o : Option Job) → r ≡ Ok o → o ≡ None → IfOk r (λ (read : Option Job). read ≡ job) →
@@ -144,4 +157,4 @@ usage_by {E} before job r o is none ok =
 
 -- memory was refused for the job
 pub job_refused : (before : FolderState) (job : Option Job) → Ended job before before ending.Memory
-job_refused before job = run.no_memory refl
+job_refused before job = run.no_memory (record { held = refl; wrote = refl })

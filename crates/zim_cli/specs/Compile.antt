@@ -10,6 +10,7 @@ use Rattle.zim_cli.specs.declared.plain_form.PlainModel.{PlainModel}
 use Rattle.zim_cli.specs.declared.ending.Ending.{Ending}
 use Rattle.zim_cli.specs.declared.ending.Ending.TheVariants as ending
 use Rattle.zim_cli.specs.PlainForm.{Model}
+use Rattle.zim_cli.specs.WriteFile.{KeepsFiles}
 use Rattle.zim_cli.specs.PlainSystem.{Says}
 use Rattle.zim_cli.specs.Reading.{HasModel, IsRefusedFor}
 
@@ -53,5 +54,5 @@ pub data Makes (before now : FolderState) (model : List ℕ) : Result PlainModel
 -- A model was compiled, or the work stopped; nothing was written.
 pub record Compiles (before now : FolderState) (model : List ℕ) (result : Result PlainModel Ending) : Type 0 where
   pub makes : Makes before now model result
-  pub held : now.held ≡ before.held
+  pub keeps : KeepsFiles before now
   pub write_faults : now.write_faults ≡ before.write_faults

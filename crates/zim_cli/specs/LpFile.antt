@@ -1,10 +1,21 @@
 -- What an LP file says of the model that it was compiled from.
-use Rattle.std.specs.Prelude.{◌≡◌, ℕ, List, length, false, Some}
+use Rattle.std.specs.Prelude.{◌≡◌, ◌↔◌, ℕ, List, length, filter, false, Some}
 use Rattle.zim_instance.specs.Instance.{Instance, Point, IsPoint, objective_at}
 use Rattle.zim_lp.specs.Correct.{numbers_in_file}
 use Rattle.zim_lp.specs.Reader.{lp}
-use Rattle.zim_cli.specs.PlainForm.{Model, variables}
+use Rattle.zim_lp.specs.declared.plain.Plain.{Plain}
+use Rattle.zim_lp.specs.Plain.{IsWritable, IsPlainPoint, plain_objective}
+use Rattle.zim_cli.specs.PlainForm.{Model, is_constraint, variables}
 use Rattle.zim_cli.specs.PlainMeaning.{Assignment, IsAssignment, Sat, Obj}
+
+-- A system that is written for a model: it has a column for each variable and a row for each constraint, and at each
+-- assignment it is solved exactly where every statement is true and has the model's objective.
+pub record IsSystemOf (model : Model) (system : Plain) : Type 0 where
+  pub columns : system.columns ≡ length (variables model)
+  pub rows : length system.lines ≡ length (filter is_constraint model)
+  pub writable : IsWritable system
+  pub points : (values : Assignment) → IsAssignment model values → IsPlainPoint system values ↔ Sat model values
+  pub objective : (values : Assignment) → IsAssignment model values → plain_objective system values ≡ Obj model values
 
 -- A point cut down to the model's variables: the J-th of them gets the number of the file column xJ.
 abbrev pub cut : Model → Point → Assignment

@@ -19,6 +19,10 @@ pub record HasModel (text : List ℕ) (model : Model) : Type 0 where
   pub tokens : AreTokens (placed_lines 0 1 (lines_of text)) placed
   pub spelled_by : Spells placed model
 
+-- No text is two models.
+abbrev pub HasOneModel : List ℕ → Type 0
+HasOneModel text = (one other : Model) → HasModel text one → HasModel text other → one ≡ other
+
 -- Why bytes are no model: they are too many, or they are not of plain form.
 pub data IsRefusedFor : List ℕ → Kind → Type 0 where
   too_long : (text : List ℕ) → most_bytes < length text → IsRefusedFor text LongFile

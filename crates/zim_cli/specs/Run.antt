@@ -8,24 +8,27 @@ use Rattle.zim_cli.specs.declared.ending.Ending.TheVariants as ending
 use Rattle.zim_cli.specs.declared.jobs.Job.{Job}
 use Rattle.zim_cli.specs.declared.jobs.Job.TheVariants.{Compile}
 use Rattle.zim_cli.specs.Compile.{WhereTold, IsUnread, at_first_line}
-use Rattle.zim_cli.specs.LpFile.{IsLpOf}
+use Rattle.zim_lp.specs.declared.plain.Plain.{Plain}
+use Rattle.zim_lp.specs.Text.{lp_text}
+use Rattle.zim_cli.specs.LpFile.{IsLpOf, IsSystemOf}
 use Rattle.zim_cli.specs.PlainForm.{Model}
 use Rattle.zim_cli.specs.Reading.{HasModel, IsRefusedFor}
-use Rattle.zim_cli.specs.WriteFile.{HoldsOnly, IsStoppedAt}
+use Rattle.zim_cli.specs.WriteFile.{KeepsFiles, HoldsOnly, IsStoppedAt}
 
 -- The name of the LP file of a base.
 abbrev pub lp_name : List ℕ → List ℕ
 lp_name base = base ++ codes ".lp"
 
--- A text that is an LP file of the model that another text is, for which this is so.
+-- A text is a model, the LP text of a system of this model is an LP file of it, and this is so of that LP text.
 pub record OfLpText (Is : List ℕ → Type 0) (text : List ℕ) : Type 0 where
   pub model : Model
   pub read : HasModel text model
-  pub written : List ℕ
-  pub is_lp : IsLpOf model written
-  pub is : Is written
+  pub system : Plain
+  pub is_system : IsSystemOf model system
+  pub is_lp : IsLpOf model (lp_text system)
+  pub is : Is (lp_text system)
 
--- A run that stopped at the LP file: all is as before, or the file holds a first part of its text.
+-- A run that stopped at the LP file: no file was changed, or the file holds a first part of its text.
 abbrev pub IsStopped : FolderState → FolderState → List ℕ → List ℕ → Type 0
 IsStopped before now model base = WhereTold before.held model (OfLpText (IsStoppedAt before now (lp_name base)))
 
@@ -35,17 +38,17 @@ pub data Ended (job : Option Job) (before now : FolderState) : Ending → Type 0
   usage : job ≡ None → now ≡ before → Ended job before now ending.Usage
   -- the model's text is no model, for a kind of fault that is told at line 1
   refused : (model base : List ℕ) (kind : Kind) → job ≡ Some (Compile model base) →
-      WhereTold before.held model (λ text. IsRefusedFor text kind) → now.held ≡ before.held →
+      WhereTold before.held model (λ text. IsRefusedFor text kind) → KeepsFiles before now →
       Ended job before now (ending.Refused (at_first_line kind) (model ∷ []))
   -- the model could not be read
-  unread : (model base : List ℕ) → job ≡ Some (Compile model base) → IsUnread before now model → now.held ≡ before.held →
+  unread : (model base : List ℕ) → job ≡ Some (Compile model base) → IsUnread before now model → KeepsFiles before now →
       Ended job before now (ending.Unread model)
   -- a call of writing failed; the job's text is a model
   unwritten : (model base : List ℕ) → job ≡ Some (Compile model base) → Rose before.write_faults now.write_faults →
       IsStopped before now model base → Ended job before now (ending.Unwritten (lp_name base))
-  -- memory was refused, before the file was begun or by its begin
-  no_memory : now.held ≡ before.held → Ended job before now ending.Memory
-  no_memory_to_begin : (model base : List ℕ) → job ≡ Some (Compile model base) → IsStopped before now model base →
+  -- memory was refused, before the file was begun or by its begin, which may have emptied it
+  no_memory : KeepsFiles before now → Ended job before now ending.Memory
+  no_memory_to_begin : (model base : List ℕ) → job ≡ Some (Compile model base) → HoldsOnly before now (lp_name base) [] →
       Ended job before now ending.Memory
   -- the LP file is written whole, and every other file is as before
   done : (model base : List ℕ) → job ≡ Some (Compile model base) →

@@ -1,22 +1,30 @@
 -- What it does to a folder to begin a file, to put a text to it and to end it.
-use Rattle.std.specs.Prelude.{◌≡◌, ℕ, ◌⊎◌, List, option_map, Result, OnOk, OnErr, IsErrOf, ⊤}
+use Rattle.std.specs.Prelude.{◌≡◌, ℕ, ◌⊎◌, List, [], length, option_map, Result, OnOk, OnErr, IsErrOf, ⊤}
 use Rattle.std.specs.FinMap as map
-use Rattle.zim_gate.specs.Counts.{Rose, IsFrontOf}
+use Rattle.zim_gate.specs.Counts.{Rose, count_on, IsFrontOf}
 use Rattle.zim_gate.specs.Folder.{FolderState, Files}
 use Rattle.zim_gate.specs.declared.stops.BeginStop.{BeginStop}
 use Rattle.zim_gate.specs.declared.stops.BeginStop.TheVariants as stop
 
--- The named file holds the bytes now, and every other file is as before; where files aren't told, they stay so.
-abbrev pub HoldsOnly : FolderState → FolderState → List ℕ → List ℕ → Type 0
-HoldsOnly before now name bytes = now.held ≡ option_map (λ (files : Files). map.insert files name bytes) before.held
+-- No file was changed, and no byte was put.
+pub record KeepsFiles (before now : FolderState) : Type 0 where
+  pub held : now.held ≡ before.held
+  pub wrote : now.wrote ≡ before.wrote
 
--- All files are as before, or the named file holds a first part of the text.
+-- The named file holds the bytes now and every other file is as before, and just so many bytes were put. Where files
+-- aren't told, they stay so.
+pub record HoldsOnly (before now : FolderState) (name bytes : List ℕ) : Type 0 where
+  pub held : now.held ≡ option_map (λ (files : Files). map.insert files name bytes) before.held
+  pub wrote : now.wrote ≡ option_map (count_on (length bytes)) before.wrote
+
+-- No file was changed, or the named file holds a first part of the text.
 abbrev pub IsStoppedAt : FolderState → FolderState → List ℕ → List ℕ → Type 0
 IsStoppedAt before now name text =
-    (now.held ≡ before.held) ⊎ ((front : List ℕ) × IsFrontOf front text × HoldsOnly before now name front)
+    KeepsFiles before now ⊎ ((front : List ℕ) × IsFrontOf front text × HoldsOnly before now name front)
 
--- A file was written whole, or the work stopped on the way.
+-- A file was written whole, or the work stopped on the way; for want of memory at its begin.
 pub record WritesFile (before now : FolderState) (name text : List ℕ) (result : Result ⊤ BeginStop) : Type 0 where
   pub ok : OnOk result (HoldsOnly before now name text)
   pub err : OnErr result (IsStoppedAt before now name text)
   pub failed : IsErrOf result stop.Failed → Rose before.write_faults now.write_faults
+  pub refused : IsErrOf result stop.Memory → KeepsFiles before now ⊎ HoldsOnly before now name []

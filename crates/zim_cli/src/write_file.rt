@@ -18,7 +18,10 @@ pub fn write_lp_file<F: Folder>(
     requires { IsWritable system.now }
     ensures { WritesFile (F.state folder.old) (F.state folder.new) name.now (lp_text system.now) result }
 {
-    folder.begin(name)?;
+    match folder.begin(name) {
+        Ok(()) => {}
+        Err(stop) => return Err(stop),
+    }
     if write(system, folder).is_err() {
         return Err(BeginStop::Failed);
     }

@@ -24,7 +24,7 @@ returns-in-Err-Failed-clause-ended g c =
 
 pub returns-clause-ended : goal.returns-clause-ended
 returns-clause-ended g c =
-    begin_refused _ _ _ _ _ c.as_slice.result.now c.in-Ok.system c.write_lp_file.result c.in-Err-Memory.field-0 (c.as_slice.ensures ∙ c.in-Ok-name_of_lp.ensures) c.in-Err-Memory.is
+    begin_refused _ _ _ _ _ c.as_slice.result.now c.in-Ok.system c.write_lp_file.result c.in-Err-Memory.field-0 (c.as_slice.ensures ∙ c.in-Ok-name_of_lp.ensures) c.in-Err-Memory.is c.in-Err-Memory.field-0-is
     (made_by _ _ _ c.compile.result c.in-Ok.system c.in-Ok.is c.compile.ensures)
     c.write_lp_file.ensures
 

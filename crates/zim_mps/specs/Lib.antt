@@ -1,0 +1,7 @@
+pub mod Sections
+pub mod Program
+pub mod Syntax
+pub mod Reader
+pub mod Text
+pub mod Correct
+pub mod Costs

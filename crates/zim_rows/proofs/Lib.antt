@@ -1,0 +1,4 @@
+mod EntryLemmas
+mod ProgramLemmas
+pub mod NamedLemmas
+pub mod RepresentLemmas

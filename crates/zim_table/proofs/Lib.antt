@@ -1,0 +1,5 @@
+mod Examples
+mod Lines
+mod TextSays
+mod Places
+pub mod Cut

@@ -1,0 +1,4 @@
+pub mod Tuples
+pub mod Reader
+pub mod Text
+pub mod Correct

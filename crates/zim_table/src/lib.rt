@@ -1,0 +1,13 @@
+//! The table beside the written files: which column of the files stands for which variable of the model, by which
+//! factors the objective was multiplied, and which statement each row comes from.
+//!
+//! `specs/Reader.antt` gives every text its table, if it is one; `specs/Text.antt` gives the text of a finished system
+//! with the names of its variables and statements. They share no definition. `specs/Correct.antt` says what table the
+//! text is.
+#![tactic(auto)]
+
+mod names;
+mod writer;
+
+pub use names::Names;
+pub use writer::{PutFault, write};
