@@ -1,0 +1,10 @@
+pub mod FormLemmas
+pub mod AnswerLemmas
+pub mod MergeLemmas
+pub mod SumLemmas
+pub mod ScaleLemmas
+pub mod NegationLemmas
+pub mod EndLemmas
+pub mod SideLemmas
+pub mod RangeLemmas
+pub mod IntegerLemmas

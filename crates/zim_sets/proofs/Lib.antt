@@ -1,0 +1,4 @@
+pub mod DistinctLemmas
+pub mod JoinLaws
+pub mod SetLemmas
+pub mod ShapeLemmas

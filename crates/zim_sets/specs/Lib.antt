@@ -1,0 +1,4 @@
+pub mod Causes
+pub mod Insertion
+pub mod Operators
+pub mod Sets
