@@ -8,8 +8,7 @@ use Rattle.zim_fault.specs.declared.signs.Sign.{Sign}
 use Rattle.zim_fault.specs.declared.signs.Sign.TheVariants.{SSemicolon}
 use Rattle.zim_fault.specs.Words.{spelling_of_word}
 use Rattle.zim_fault.specs.Signs.{spelling_of_sign}
-use Rattle.zim_lex.specs.declared.signs.TheConstants.{SIGNS}
-use Rattle.zim_lex.specs.Spelled.{every_word, word_in, sign_in}
+use Rattle.zim_lex.specs.Spelled.{every_word, every_sign, word_in, sign_in}
 
 -- what is found in a list passes the test
 found_passes : {A : Type 0} (p : A → Bool) (xs : List A) (x : A) → find p xs ≡ Some x → p x ≡ true
@@ -25,7 +24,7 @@ word_in_spells text word h = (bytes_decides (spelling_of_word word) text).0 (fou
 
 pub sign_in_spells : (text : List ℕ) (sign : Sign) → sign_in text ≡ Some sign → spelling_of_sign sign ≡ text
 unfolding sign_in
-sign_in_spells text sign h = (bytes_decides (spelling_of_sign sign) text).0 (found_passes (λ s. pointwise nat_eq (spelling_of_sign s) text) SIGNS sign h)
+sign_in_spells text sign h = (bytes_decides (spelling_of_sign sign) text).0 (found_passes (λ s. pointwise nat_eq (spelling_of_sign s) text) every_sign sign h)
 
 word_in_own : (word : Word) → word_in (spelling_of_word word) ≡ Some word
 unfolding word_in
