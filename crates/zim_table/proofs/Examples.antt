@@ -22,3 +22,12 @@ all_lines = refl
 
 rows_before_columns : is_some (table (codes "zimplc table 1\nfactor lp 1\nfactor mps 1\nobjective none\nrow r1 a 1 1\ncolumn x1 x\nend\n")) ≡ false
 rows_before_columns = refl
+
+more_on_a_helper : is_some (table (codes "zimplc table 1\nfactor lp 1\nfactor mps 1\nobjective none\ncolumn x1 x\nhelper x2\npriority x1 10\nend\n")) ≡ false
+more_on_a_helper = refl
+
+two_offsets : is_some (table (codes "zimplc table 1\nfactor lp 1\nfactor mps 1\nobjective none\noffset one\noffset one\nend\n")) ≡ false
+two_offsets = refl
+
+behind_the_end : is_some (table (codes "zimplc table 1\nfactor lp 1\nfactor mps 1\nobjective none\ncolumn x1 x\nend\nend\n")) ≡ false
+behind_the_end = refl

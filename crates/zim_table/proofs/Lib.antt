@@ -1,5 +1,6 @@
 mod Examples
 mod Lines
-mod TextSays
+pub mod TextSays
 mod Places
 pub mod Cut
+pub mod Whole

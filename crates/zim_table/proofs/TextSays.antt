@@ -13,8 +13,9 @@ use Rattle.zim_rows.specs.Program.{LinearProgram, IsProgram}
 use Rattle.zim_rows.specs.Named.{column_name, row_name}
 use Rattle.zim_table.specs.declared.names.Names.{Names}
 use Rattle.zim_fields.specs.Numbers.{whole_of}
-use Rattle.zim_table.specs.Reader.{Pair, Line, read_line, read_lines, are_in_order, pair_of, is_objective, read_factor, read_table, table}
-use Rattle.zim_table.specs.Reader.Line.{Declared, Other, RowOf, End}
+use Rattle.zim_table.specs.Reader.{Pair, Line, Stage, stage_after, read_line, read_lines, are_in_order, pair_of, is_objective, read_factor, read_table, table}
+use Rattle.zim_table.specs.Reader.Line.{Declared, Offset, RowOf, End}
+use Rattle.zim_table.specs.Reader.Stage.{Columns, Details, Rows}
 use Rattle.zim_table.specs.Text.{statement_of, statement_name, factor_text, objective_text, variable_text, offset_text, place_in_statement, row_text, table_text}
 use Rattle.zim_table.specs.Correct.{IsStatement, CanBeListed, numbered_pair, table_said}
 use Rattle.zim_table.proofs.Lines.{Gives, Gives-nil, Gives-append, Gives-line, Gives-each}
@@ -109,7 +110,7 @@ read_before line value [] ls others all e = e
 read_before line value (x ∷ xs) ls others all e = rw (all.0, read_before line value xs ls others all.1 e) refl
 
 abbrev said_offset : Bool → List Line
-said_offset none = cond none (Other ∷ []) []
+said_offset none = cond none (Offset ∷ []) []
 
 offset_read : (none : Bool) (ls : List (List Field)) (others : List Line) → read_lines ls ≡ Some others → read_lines (offset_fields none ++ ls) ≡ Some (said_offset none ++ others)
 offset_read true ls others e = rw e refl
@@ -132,21 +133,23 @@ further_read p variables names few =
 
 -- they are in order, and their pairs are those of the variables
 
-rows_ordered : (rs : List NumberedRow) → are_in_order true (map said_row rs ++ (End ∷ [])) ≡ true
-rows_ordered [] = refl
-rows_ordered (r ∷ rs) = rows_ordered rs
+rows_ordered : (stage : Stage) (rs : List NumberedRow) → are_in_order stage (map said_row rs ++ (End ∷ [])) ≡ true
+rows_ordered stage [] = refl
+rows_ordered Columns (r ∷ rs) = rows_ordered Rows rs
+rows_ordered Details (r ∷ rs) = rows_ordered Rows rs
+rows_ordered Rows (r ∷ rs) = rows_ordered Rows rs
 
-rows_begun : (rs : List NumberedRow) → are_in_order false (map said_row rs ++ (End ∷ [])) ≡ true
-rows_begun [] = refl
-rows_begun (r ∷ rs) = rows_ordered rs
+offset_ordered : (stage : Stage) (none : Bool) (rs : List NumberedRow) → stage_after stage Offset ≡ Some Rows → are_in_order stage (said_offset none ++ (map said_row rs ++ (End ∷ []))) ≡ true
+offset_ordered Columns true rs e = rows_ordered Rows rs
+offset_ordered Details true rs e = rows_ordered Rows rs
+offset_ordered Rows true rs e = cc
+offset_ordered stage false rs e = rows_ordered stage rs
 
-offset_ordered : (none : Bool) (rs : List NumberedRow) → are_in_order false (said_offset none ++ (map said_row rs ++ (End ∷ []))) ≡ true
-offset_ordered true rs = rows_begun rs
-offset_ordered false rs = rows_begun rs
-
-variables_ordered : (vs : List Variable) (none : Bool) (rs : List NumberedRow) → are_in_order false (map said_variable vs ++ (said_offset none ++ (map said_row rs ++ (End ∷ [])))) ≡ true
-variables_ordered [] none rs = offset_ordered none rs
-variables_ordered (v ∷ vs) none rs = variables_ordered vs none rs
+variables_ordered : (stage : Stage) (vs : List Variable) (none : Bool) (rs : List NumberedRow) → stage_after stage Offset ≡ Some Rows → are_in_order stage (map said_variable vs ++ (said_offset none ++ (map said_row rs ++ (End ∷ [])))) ≡ true
+variables_ordered stage [] none rs e = offset_ordered stage none rs e
+variables_ordered Columns (v ∷ vs) none rs e = variables_ordered Details vs none rs refl
+variables_ordered Details (v ∷ vs) none rs e = variables_ordered Details vs none rs refl
+variables_ordered Rows (v ∷ vs) none rs e = cc
 
 rows_pairs : (rs : List NumberedRow) → filter_map pair_of (map said_row rs ++ (End ∷ [])) ≡ []
 rows_pairs [] = refl
@@ -171,7 +174,7 @@ factor_read : (maximises : Bool) → read_factor (codes "mps") (factor_fields ma
 factor_read true = refl
 factor_read false = refl
 
-table_read : (maximises : Bool) (objective : Option (List ℕ)) (ls : List (List Field)) (read : List Line) (pairs : List Pair) → read_lines ls ≡ Some read → are_in_order false read ≡ true → filter_map pair_of read ≡ pairs → read_table ((codes "zimplc" ∷ codes "table" ∷ codes "1" ∷ []) ∷ (codes "factor" ∷ codes "lp" ∷ codes "1" ∷ []) ∷ factor_fields maximises ∷ objective_fields maximises objective ∷ ls) ≡ Some (record { pairs = pairs; lp_factor = pos 1; mps_factor = if maximises then negsuc 0 else pos 1 })
+table_read : (maximises : Bool) (objective : Option (List ℕ)) (ls : List (List Field)) (read : List Line) (pairs : List Pair) → read_lines ls ≡ Some read → are_in_order Columns read ≡ true → filter_map pair_of read ≡ pairs → read_table ((codes "zimplc" ∷ codes "table" ∷ codes "1" ∷ []) ∷ (codes "factor" ∷ codes "lp" ∷ codes "1" ∷ []) ∷ factor_fields maximises ∷ objective_fields maximises objective ∷ ls) ≡ Some (record { pairs = pairs; lp_factor = pos 1; mps_factor = if maximises then negsuc 0 else pos 1 })
 table_read maximises objective ls read pairs e f g = rw (objective_is maximises objective, factor_read maximises, e, f, g) refl
 
 abbrev table_lines : LinearProgram → List (List ℕ) → Names → List (List Field)
@@ -207,5 +210,5 @@ text_says p variables names program is =
     ∙ append-nil (table_lines p variables names))
     ∙ table_read p.target.maximize (option_map (statement_name names) names.objective) (further_fields p variables names) (further_said p variables) (map numbered_pair (enumerate_from 1 variables))
     (further_read p variables names program.few_rows)
-    (variables_ordered (enumerate_from 1 variables) (p.columns == 0) (enumerate_from 1 p.rows))
+    (variables_ordered Columns (enumerate_from 1 variables) (p.columns == 0) (enumerate_from 1 p.rows) refl)
     (variables_pairs (enumerate_from 1 variables) (p.columns == 0) (enumerate_from 1 p.rows))

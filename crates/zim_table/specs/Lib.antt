@@ -1,4 +1,5 @@
 pub mod Tuples
 pub mod Reader
+pub mod Ended
 pub mod Text
 pub mod Correct

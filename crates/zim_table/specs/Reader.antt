@@ -23,11 +23,13 @@ pub record Table : Type 0 where
   pub lp_factor : ℤ
   pub mps_factor : ℤ
 
--- The lines behind the objective's: a declared column, something more on it, another column, a row, the end.
+-- The lines behind the objective's: a declared column, something more on it, a helper column, the offset's column, a row,
+-- the end.
 pub data Line : Type 0 where
   Declared : Pair → Line
   Detail : Line
-  Other : Line
+  Helper : Line
+  Offset : Line
   RowOf : Line
   End : Line
 
@@ -49,7 +51,7 @@ read_detail _ = None
 
 -- `helper xJ`
 abbrev pub read_helper : List Field → Option Line
-read_helper (column ∷ []) = Some Other
+read_helper (column ∷ []) = Some Helper
 read_helper _ = None
 
 -- `row rI NAME K F`
@@ -64,7 +66,7 @@ read_line (word ∷ line) =
     if bytes_eq word (codes "column") then read_column line
     else if bytes_eq word (codes "priority") || bytes_eq word (codes "startval") then read_detail line
     else if bytes_eq word (codes "helper") then read_helper line
-    else if are_words (codes "offset" ∷ codes "one" ∷ []) (word ∷ line) then Some Other
+    else if are_words (codes "offset" ∷ codes "one" ∷ []) (word ∷ line) then Some Offset
     else if bytes_eq word (codes "row") then read_row line
     else if are_words (codes "end" ∷ []) (word ∷ line) then Some End
     else None
@@ -74,18 +76,35 @@ abbrev pub read_lines : List (List Field) → Option (List Line)
 read_lines [] = Some []
 read_lines (line ∷ ls) = option_and_then (λ (first : Line). option_map (λ (others : List Line). first ∷ others) (read_lines ls)) (read_line line)
 
--- Columns come before rows, and the end is the last line; `rows` says whether rows have begun.
-abbrev pub are_in_order : Bool → List Line → Bool
-are_in_order rows [] = false
-are_in_order rows (End ∷ []) = true
-are_in_order rows (End ∷ _ ∷ _) = false
-are_in_order rows (RowOf ∷ ls) = are_in_order true ls
-are_in_order true (Declared _ ∷ _) = false
-are_in_order true (Detail ∷ _) = false
-are_in_order true (Other ∷ _) = false
-are_in_order false (Declared _ ∷ ls) = are_in_order false ls
-are_in_order false (Detail ∷ ls) = are_in_order false ls
-are_in_order false (Other ∷ ls) = are_in_order false ls
+-- What the lines so far allow next: columns; the same, or something more on the declared column of the last line; rows.
+pub data Stage : Type 0 where
+  Columns : Stage
+  Details : Stage
+  Rows : Stage
+
+-- The stage after a line, if the line may come: columns stand before rows, with more on a declared column right behind it,
+-- and the offset's column is the last one.
+abbrev pub stage_after : Stage → Line → Option Stage
+stage_after Rows RowOf = Some Rows
+stage_after Rows _ = None
+stage_after Details Detail = Some Details
+stage_after Columns Detail = None
+stage_after _ (Declared _) = Some Details
+stage_after _ Helper = Some Columns
+stage_after _ Offset = Some Rows
+stage_after _ RowOf = Some Rows
+stage_after _ End = None
+
+-- The further lines are all right at the stage, if there is one.
+abbrev pub goes_on : (Stage → Bool) → Option Stage → Bool
+goes_on further None = false
+goes_on further (Some stage) = further stage
+
+-- The lines come in their order, and the end is the last one.
+abbrev pub are_in_order : Stage → List Line → Bool
+are_in_order stage [] = false
+are_in_order stage (End ∷ []) = true
+are_in_order stage (line ∷ ls) = goes_on (λ (next : Stage). are_in_order next ls) (stage_after stage line)
 
 -- `objective minimize NAME`, `objective maximize NAME` and `objective none`
 abbrev pub is_objective : List Field → Bool
@@ -104,7 +123,8 @@ read_factor format _ = None
 abbrev pub pair_of : Line → Option Pair
 pair_of (Declared pair) = Some pair
 pair_of Detail = None
-pair_of Other = None
+pair_of Helper = None
+pair_of Offset = None
 pair_of RowOf = None
 pair_of End = None
 
@@ -112,7 +132,7 @@ pair_of End = None
 abbrev pub table_of : List (List Field) → ℤ → ℤ → Option Table
 table_of ls lp mps =
     option_and_then
-    (λ (read : List Line). if are_in_order false read then Some (record { pairs = filter_map pair_of read; lp_factor = lp; mps_factor = mps }) else None)
+    (λ (read : List Line). if are_in_order Columns read then Some (record { pairs = filter_map pair_of read; lp_factor = lp; mps_factor = mps }) else None)
     (read_lines ls)
 
 -- `zimplc table 1`, the factors, the objective, and the other lines.

@@ -3,11 +3,13 @@
 //!
 //! `specs/Reader.antt` gives every text its table, if it is one; `specs/Text.antt` gives the text of a finished system
 //! with the names of its variables and statements. They share no definition. `specs/Correct.antt` says what table the
-//! text is.
+//! text is. `specs/Ended.antt` says when a text ends in a table's last line.
 #![tactic(auto)]
 
+mod laws;
 mod names;
 mod writer;
 
+pub use laws::an_ended_table_is_whole;
 pub use names::Names;
 pub use writer::{PutFault, write};
