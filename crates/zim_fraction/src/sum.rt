@@ -12,6 +12,7 @@ use crate::limit::{is_small, plus_within, times_within};
 
 /// a + b. `Past` exactly where the least common denominator m, a numerator over m or the sum of
 /// these passes 2^127 - 1, even if the sum's lowest terms would not.
+#[inline]
 pub fn add(a: Fraction, b: Fraction) -> Result<Fraction, Past>
     ensures answer { result ≡ sum_answer a b }
     ensures ok { IfOk result (λ q. q ≡ exact.plus a b) }
@@ -56,7 +57,9 @@ fn small_sum(a: Fraction, b: Fraction) -> Option<i128>
     }
 }
 
-// The sum's numerator over the least common denominator, and that denominator.
+// The sum's numerator over the least common denominator, and that denominator. Apart, so that the sums
+// of small numbers stay short enough to stand in their callers.
+#[inline(never)]
 fn common_sum(a: Fraction, b: Fraction) -> Option<(i128, u128)>
     ensures { SomeIff result (IsTrue (is_sum_within a b)) (common_numer a b, common_denom a b) }
 {

@@ -1,5 +1,8 @@
 // Worked examples of rounding, powers and the limit, and numbers as keys.
-use crate::{Fraction, NumFault, Past, add, compare, div, floor, mul, of, power, round};
+use crate::{
+    Fraction, NumFault, Past, add, ceil, compare, div, floor, gcd, lcm, mul, negated, of, power,
+    round, sub,
+};
 use std::cmp::Ordering;
 use std::collections::HashSet;
 use std::test::Fail;
@@ -17,6 +20,28 @@ fn powers_of_zero(rt: HostRuntime) -> Result<(), Fail> {
     assert_eq!(rt; power(Fraction::zero(), 0), Ok(Fraction::one()));
     assert_eq!(rt; power(Fraction::zero(), -1), Err(NumFault::DivZero));
     assert_eq!(rt; power(of(2, 3)?, -2), of(9, 4));
+    Ok(())
+}
+
+// 33! is the greatest factorial that is no more than the limit.
+#[test]
+fn factorials_to_the_limit(rt: HostRuntime) -> Result<(), Fail> {
+    let before = Fraction::whole(263_130_836_933_693_530_167_218_012_160_000_000);
+    let product = mul(before, of(33, 1)?)?;
+    let wanted = 8_683_317_618_811_886_495_518_194_401_280_000_000;
+    assert_eq!(rt; product, Fraction::whole(wanted));
+    assert_eq!(rt; mul(product, of(34, 1)?), Err(Past));
+    Ok(())
+}
+
+#[test]
+fn quotients_are_in_lowest_terms(rt: HostRuntime) -> Result<(), Fail> {
+    let third = div(of(2, 1)?, of(6, 1)?)?;
+    assert_eq!(rt; (third.numer(), third.denom()), (1, 3));
+    assert_eq!(rt; sub(third, of(1, 2)?), Ok(of(-1, 6)?));
+    assert_eq!(rt; ceil(third), Fraction::one());
+    assert_eq!(rt; negated(third).numer(), -1);
+    assert_eq!(rt; (gcd(12, 18), lcm(4, 6)), (6, Ok(12)));
     Ok(())
 }
 

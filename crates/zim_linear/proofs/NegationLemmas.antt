@@ -38,6 +38,7 @@ difference_answer a b turned (Ok form) e answer = (
     number =
         λ x.
         answer.1.number x ∙ ap (plus (number_at x a)) (ap (number_at x) e ∙ number_negated x b) ∙ sym (minus_is (number_at x a) (number_at x b));
+    terms = answer.1.terms;
     columns =
         λ n p q.
         answer.1.columns n p (subst (λ (f : LinearForm). AreColumns n f.terms) (sym e) (negated_columns n b.terms q));

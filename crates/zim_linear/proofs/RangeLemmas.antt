@@ -10,7 +10,7 @@ use Rattle.zim_rational.proofs.Fraction.{at_most-is, own-parts, zero_fraction, f
 use Rattle.zim_rational.proofs.Ring.{plus_zero, plus_assoc, zero_plus}
 use Rattle.zim_rational.proofs.Order.{at_most_refl, at_most_trans, plus_at_most, times_at_most, times_turns}
 use Rattle.zim_linear.specs.Forms.{Term, Assignment, sum_at}
-use Rattle.zim_linear.specs.Ends.{sides_at, IsBetween, AreBetween, AreEnds, counted, side_of, has_end, and_then, at_side, end_from, end_answer}
+use Rattle.zim_linear.specs.Ends.{sides_at, IsBetween, AreBetween, counted, side_of, has_end, and_then, at_side, end_from, end_answer}
 use Rattle.zim_linear.specs.declared.sides.Sides.{Sides}
 use Rattle.zim_linear.specs.declared.sides.End.{End}
 use Rattle.zim_linear.specs.declared.sides.End.TheVariants.{Least, Greatest}
@@ -68,12 +68,12 @@ and_then_ok (Ok q) next l e = (q, refl, e)
 and_then_ok (Err p) next l e = absurd (cc)
 
 -- the step of a finite end: the side that counts, and the end from the next sum
-record HasStep (end : End) (sides : List Sides) (sum : Rational) (t : Term) (ts : List Term) (l : Rational) : Type 0 where
-  side : Rational
-  is : side_of end sides t ≡ Some side
-  rest : end_from end sides (plus sum (times t.1 side)) ts ≡ Ok (Some l)
+pub record HasStep (end : End) (sides : List Sides) (sum : Rational) (t : Term) (ts : List Term) (l : Rational) : Type 0 where
+  pub side : Rational
+  pub is : side_of end sides t ≡ Some side
+  pub rest : end_from end sides (plus sum (times t.1 side)) ts ≡ Ok (Some l)
 
-step_of : (end : End) (sides : List Sides) (sum : Rational) (t : Term) (ts : List Term) (l : Rational) → end_from end sides sum (t ∷ ts) ≡ Ok (Some l) → HasStep end sides sum t ts l
+pub step_of : (end : End) (sides : List Sides) (sum : Rational) (t : Term) (ts : List Term) (l : Rational) → end_from end sides sum (t ∷ ts) ≡ Ok (Some l) → HasStep end sides sum t ts l
 unfolding end_from
 step_of end sides sum t ts l e =
     let a = at_side_some (side_of end sides t) _ l e in
@@ -128,7 +128,7 @@ finite_by : (b : Bool) (r : Result (Option Rational) Past) (l : Rational) → co
 finite_by true r l e = e
 finite_by false r l e = absurd (cc)
 
-finite : (end : End) (sides : List Sides) (terms : List Term) (l : Rational) → end_answer end sides terms ≡ Ok (Some l) → end_from end sides zero terms ≡ Ok (Some l)
+pub finite : (end : End) (sides : List Sides) (terms : List Term) (l : Rational) → end_answer end sides terms ≡ Ok (Some l) → end_from end sides zero terms ≡ Ok (Some l)
 unfolding end_answer
 finite end sides terms l e =
     finite_by (has_end end sides terms) (end_from end sides zero terms) l e
@@ -143,9 +143,9 @@ high_end sides terms None x between e = tt
 high_end sides terms (Some h) x between e =
     subst (λ (q : Rational). IsAtMost q h) (zero_plus (sum_at x terms)) (below_greatest sides terms zero h x between (finite Greatest sides terms h e))
 
--- the ends that are answered are ends
-pub ends_from_answers : (sides : List Sides) (terms : List Term) (ends : Sides) → end_answer Least sides terms ≡ Ok ends.low → end_answer Greatest sides terms ≡ Ok ends.high → AreEnds sides terms ends
-ends_from_answers sides terms ends e f x between = record {
+-- the ends that are answered are kept
+pub ends_kept : (sides : List Sides) (terms : List Term) (ends : Sides) → end_answer Least sides terms ≡ Ok ends.low → end_answer Greatest sides terms ≡ Ok ends.high → (x : Assignment) → AreBetween x sides terms → IsBetween ends (sum_at x terms)
+ends_kept sides terms ends e f x between = record {
   low = low_end sides terms ends.low x between e;
   high = high_end sides terms ends.high x between f;
 }

@@ -31,7 +31,7 @@ scale_start xs q terms = record {
 }
 
 -- a coefficient times q, at an assignment
-scaled_times : (c q v : Rational) → times (times c q) v ≡ times (times c v) q
+pub scaled_times : (c q v : Rational) → times (times c q) v ≡ times (times c v) q
 scaled_times c q v = times_assoc c q v ∙ ap (times c) (times_comm q v) ∙ sym (times_assoc c v q)
 
 -- the rest's first term, taken to the made ones
@@ -107,6 +107,7 @@ scaled_answer a form xs made p q r n e ok is g there =
       (m.within, within),
       record {
         number = λ x. ap (λ (f : LinearForm). plus (sum_at x f.terms) f.constant) there ∙ ap₂ plus (m.number x) (is ∙ ap (λ c. times c q) g) ∙ sym (plus_times (sum_at x a.terms) a.constant q);
+        terms = subst (λ (f : LinearForm). AreTerms f.terms) (sym there) m.terms;
         columns = λ k p. subst (λ (f : LinearForm). AreColumns k f.terms) (sym there) (m.columns k p);
       },
     )

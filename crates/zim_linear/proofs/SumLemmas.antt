@@ -22,6 +22,7 @@ added a b made q m e = record {
   number =
       λ x.
       ap₂ plus (m.number x) e ∙ regrouped (sum_at x a.terms) (sum_at x b.terms) a.constant b.constant;
+  terms = m.terms;
   columns = m.columns;
 }
 

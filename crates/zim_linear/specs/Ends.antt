@@ -72,6 +72,22 @@ abbrev pub EndsAnswer : List Sides → List Term → Result Sides Past → Type 
 EndsAnswer sides terms (Ok ends) = (end_answer Least sides terms ≡ Ok ends.low) × (end_answer Greatest sides terms ≡ Ok ends.high)
 EndsAnswer sides terms (Err past) = (end_answer Least sides terms ≡ Err past) ⊎ (end_answer Greatest sides terms ≡ Err past)
 
--- wherever the columns lie between their sides, the sum of the terms lies between the ends
-abbrev pub AreEnds : List Sides → List Term → Sides → Type 0
-AreEnds sides terms ends = (x : Assignment) → AreBetween x sides terms → IsBetween ends (sum_at x terms)
+-- the low side isn't above the high one
+abbrev pub IsUncrossed : Sides → Type 0
+IsUncrossed sides = IfSome sides.low (λ l. IfSome sides.high (λ h. IsAtMost l h))
+
+-- no column of the terms has a low side above its high one
+abbrev pub AreUncrossed : List Sides → List Term → Type 0
+AreUncrossed sides [] = Unit {0}
+AreUncrossed sides (t ∷ ts) = IsUncrossed (sides_at sides t.0) × AreUncrossed sides ts
+
+-- the terms come to v at columns that lie between their sides
+abbrev pub IsReached : List Sides → List Term → Rational → Type 0
+IsReached sides terms v = (x : Assignment) × AreBetween x sides terms × (sum_at x terms ≡ v)
+
+-- the ends are the least and the greatest number of the terms: wherever the columns lie between their sides, the sum of
+-- the terms lies between the ends, and where no sides are crossed, each finite end is such a sum
+pub record AreEnds (sides : List Sides) (terms : List Term) (ends : Sides) : Type 0 where
+  pub kept : (x : Assignment) → AreBetween x sides terms → IsBetween ends (sum_at x terms)
+  pub low_reached : AreUncrossed sides terms → IfSome ends.low (IsReached sides terms)
+  pub high_reached : AreUncrossed sides terms → IfSome ends.high (IsReached sides terms)

@@ -1,10 +1,10 @@
 -- The least multiple of a form whose coefficients and constant are whole.
-use Rattle.std.specs.Prelude.{ℕ, pos, ◌≡◌, ◌<◌, ◌≤◌, List, [], ◌∷◌, Result, Ok, Err}
+use Rattle.std.specs.Prelude.{ℕ, pos, ◌≡◌, ◌<◌, ◌≤◌, ◌≤ℤ◌, IsTrue, List, [], ◌∷◌, Result, Ok, Err}
 use Rattle.std.specs.Int.{◌∣◌}
 use Rattle.zim_fraction.specs.Limit.{limit}
 use Rattle.zim_rational.specs.Gcd.{lcm}
-use Rattle.zim_rational.specs.Rational.{whole}
-use Rattle.zim_linear.specs.Forms.{Term, LinearForm}
+use Rattle.zim_rational.specs.Rational.{whole, times, is_whole}
+use Rattle.zim_linear.specs.Forms.{Term, LinearForm, Assignment, number_at}
 use Rattle.zim_linear.specs.Multiples.{IsMultipleWithin, IsMultipleOf}
 use Rattle.zim_linear.specs.declared.faults.LinFault.{LinFault}
 use Rattle.zim_linear.specs.declared.faults.LinFault.TheVariants.{Past, Memory}
@@ -30,6 +30,37 @@ pub record IsLeastMultiple (a : LinearForm) (k : ℕ) : Type 0 where
   pub constant : a.constant.denom ∣ k
   pub coefficients : AllDivide a.terms k
   pub least : (m : ℕ) → a.constant.denom ∣ m → AllDivide a.terms m → k ∣ m
+
+-- each coefficient is a whole number
+abbrev pub AreWhole : List Term → Type 0
+AreWhole [] = Unit {0}
+AreWhole (t ∷ ts) = IsTrue (is_whole t.1) × AreWhole ts
+
+-- the coefficients and the constant are whole numbers
+pub record HasWholeNumbers (form : LinearForm) : Type 0 where
+  pub coefficients : AreWhole form.terms
+  pub constant : IsTrue (is_whole form.constant)
+
+-- each column is a whole number
+abbrev pub IsWholeAt : Assignment → Type 0
+IsWholeAt x = (j : ℕ) → IsTrue (is_whole (x j))
+
+-- each coefficient times m is a whole number
+abbrev pub AreWholeTimes : ℕ → List Term → Type 0
+AreWholeTimes m [] = Unit {0}
+AreWholeTimes m (t ∷ ts) = IsTrue (is_whole (times t.1 (whole (pos m)))) × AreWholeTimes m ts
+
+-- m times the form has whole numbers
+pub record HasWholeMultiple (a : LinearForm) (m : ℕ) : Type 0 where
+  pub coefficients : AreWholeTimes m a.terms
+  pub constant : IsTrue (is_whole (times a.constant (whole (pos m))))
+
+-- the multiple has whole numbers, so it is whole wherever the columns are, and each number from 1 whose multiple of the
+-- form has whole numbers is at least k
+pub record IsLeastWhole (a : LinearForm) (made : IntegerForm) : Type 0 where
+  pub numbers : HasWholeNumbers made.form
+  pub at_whole : (x : Assignment) → IsWholeAt x → IsTrue (is_whole (number_at x made.form))
+  pub least : (m : ℕ) → 0 < m → HasWholeMultiple a m → made.k ≤ℤ pos m
 
 -- neither the least common multiple nor a product with it is past
 abbrev pub IsIntegerWithin : LinearForm → Type 0

@@ -40,7 +40,8 @@ ScaledAnswer view xs q (Err Memory) = Unit {0}
 abbrev pub IsMultipleWithin : LinearForm → Rational → Type 0
 IsMultipleWithin a q = HaveProductsWithin a.terms q × IsTrue (is_number (times a.constant q))
 
--- at every assignment the number is that of a times q, and no column is new
+-- at every assignment the number is that of a times q; the terms are in order, and no column is new
 pub record IsMultipleOf (a : LinearForm) (q : Rational) (form : LinearForm) : Type 0 where
   pub number : (x : Assignment) → number_at x form ≡ times (number_at x a) q
+  pub terms : AreTerms form.terms
   pub columns : (n : ℕ) → AreColumns n a.terms → AreColumns n form.terms

@@ -45,10 +45,17 @@ TermsAnswer view xs ys (Err Memory) = Unit {0}
 abbrev pub IsSumWithin : LinearForm → LinearForm → Type 0
 IsSumWithin a b = HaveSumsWithin a.terms b.terms × IsTrue (is_sum_within a.constant b.constant)
 
--- at every assignment the number is the sum of the numbers of a and b, and no column is new
+-- at every assignment the number is the sum of the numbers of a and b; the terms are in order, and no column is new
 pub record IsSumOf (a b form : LinearForm) : Type 0 where
   pub number : (x : Assignment) → number_at x form ≡ plus (number_at x a) (number_at x b)
+  pub terms : AreTerms form.terms
   pub columns : (n : ℕ) → AreColumns n a.terms → AreColumns n b.terms → AreColumns n form.terms
+
+-- the form is the sum of what it was and of `more`, or it is as before: where the sum is past, or memory was refused
+abbrev pub AddedAnswer : LinearForm → LinearForm → LinearForm → Result Unit LinFault → Type 0
+AddedAnswer old more new (Ok _) = IsSumWithin old more × IsSumOf old more new
+AddedAnswer old more new (Err Past) = (¬ IsSumWithin old more) × (new ≡ old)
+AddedAnswer old more new (Err Memory) = new ≡ old
 
 -- the coefficients with their signs turned
 abbrev pub negated_terms : List Term → List Term
@@ -62,7 +69,8 @@ negated_form a = record { terms = negated_terms a.terms; constant = negate a.con
 abbrev pub IsDifferenceWithin : LinearForm → LinearForm → Type 0
 IsDifferenceWithin a b = IsSumWithin a (negated_form b)
 
--- at every assignment the number is that of a less that of b, and no column is new
+-- at every assignment the number is that of a less that of b; the terms are in order, and no column is new
 pub record IsDifferenceOf (a b form : LinearForm) : Type 0 where
   pub number : (x : Assignment) → number_at x form ≡ minus (number_at x a) (number_at x b)
+  pub terms : AreTerms form.terms
   pub columns : (n : ℕ) → AreColumns n a.terms → AreColumns n b.terms → AreColumns n form.terms

@@ -1,5 +1,5 @@
 // The type, and the forms that are given by a number or a column.
-ghost use Rattle.std.specs.Prelude.{◌≡◌, [], ◌∷◌, IfOk};
+ghost use Rattle.std.specs.Prelude.{◌≡◌, [], ◌∷◌, ◌++◌, IfOk, OnOk, OnErr};
 ghost use Rattle.zim_rational.specs.Rational.{zero, one};
 ghost use Rattle.zim_linear.specs.Forms.{AreTerms, form_of};
 
@@ -66,6 +66,22 @@ impl Form {
         ensures { result ≡ self.now.constant }
     {
         self.constant
+    }
+
+    // The allocator that the terms are kept by.
+    pub(crate) fn allocator(&self) -> Global {
+        *self.terms.allocator()
+    }
+
+    // Adds terms at the end and sets the constant; after `Memory` the form is as before.
+    pub(crate) fn append(&mut self, more: &[Term], constant: Fraction) -> Result<(), Memory>
+        requires { AreTerms (self.old.terms ++ more.now) }
+        ensures ok { OnOk result (self.new ≡ form_of (self.old.terms ++ more.now) constant) }
+        ensures err { OnErr result (self.new ≡ self.old) }
+    {
+        self.terms.extend_from_slice(more)?;
+        self.constant = constant;
+        Ok(())
     }
 
     // A form of terms in column order, none with coefficient 0.

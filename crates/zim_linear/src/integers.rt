@@ -1,8 +1,8 @@
 // Multiples of forms that have whole numbers alone.
-ghost use Rattle.std.specs.Prelude.{◌≡◌, ◌≤◌, ◌≤ℤ◌, pos, unsigned_abs};
+ghost use Rattle.std.specs.Prelude.{◌≡◌, ◌≤◌, ◌≤ℤ◌, pos, unsigned_abs, IfOk};
 ghost use Rattle.std.specs.Result.{OkIff};
 ghost use Rattle.zim_fraction.specs.Limit.{limit};
-ghost use Rattle.zim_linear.specs.Integers.{multiple_from, common_multiple, IsLeastMultiple, IntegerAnswer};
+ghost use Rattle.zim_linear.specs.Integers.{multiple_from, common_multiple, IsLeastMultiple, IsLeastWhole, IntegerAnswer};
 
 use crate::faults::LinFault;
 use crate::form::{Form, Term};
@@ -26,6 +26,7 @@ pub struct IntegerForm {
 pub fn integer_form(alloc: Global, a: &Form) -> Result<IntegerForm, LinFault>
     ensures answer { IntegerAnswer a.now result }
     ensures least { IsLeastMultiple a.now (common_multiple a.now) }
+    ensures whole { IfOk result (IsLeastWhole a.now) }
 {
     let k = match multiple(a.constant_part().denom(), a.terms()) {
         Ok(k) => k,

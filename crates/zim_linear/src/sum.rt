@@ -1,9 +1,9 @@
 // Sums and differences of forms.
-ghost use Rattle.std.specs.Prelude.{◌≡◌, IfOk};
+ghost use Rattle.std.specs.Prelude.{◌≡◌, ◌++◌, IsTrue, IfOk};
 ghost use Rattle.zim_linear.specs.Forms.{AreTerms, form_of};
 ghost use Rattle.zim_linear.specs.Answers.{FormAnswer};
 ghost use Rattle.zim_linear.specs.Sums as exact;
-ghost use Rattle.zim_linear.specs.Sums.{IsSumWithin, IsSumOf, TermsAnswer, PushAnswer, negated_form, IsDifferenceWithin, IsDifferenceOf};
+ghost use Rattle.zim_linear.specs.Sums.{IsSumWithin, IsSumOf, TermsAnswer, PushAnswer, AddedAnswer, negated_form, IsDifferenceWithin, IsDifferenceOf};
 
 use crate::faults::LinFault;
 use crate::form::{Form, Term};
@@ -13,7 +13,7 @@ use zim_fraction as numbers;
 use zim_fraction::Fraction;
 
 /// a + b. `Past` exactly where a column stands in both and the sum of its coefficients is past, or the
-/// sum of the constants is.
+/// sum of the constants is. The time is that of the terms of both: a long sum is made by `add_to`.
 pub fn add(alloc: Global, a: &Form, b: &Form) -> Result<Form, LinFault>
     ensures { FormAnswer (IsSumWithin a.now b.now) (IsSumOf a.now b.now) result }
 {
@@ -21,6 +21,39 @@ pub fn add(alloc: Global, a: &Form, b: &Form) -> Result<Form, LinFault>
     match numbers::add(a.constant_part(), b.constant_part()) {
         Ok(constant) => Ok(Form::of_terms(terms, constant)),
         Err(_) => Err(LinFault::Past),
+    }
+}
+
+/// Adds `more` to a form, with the answer of `add`; after a fault the form is as before.
+///
+/// Where all columns of `more` stand after those of the form, the time is that of `more` alone, else it is
+/// that of `add`. So a long sum is made from the left, each part added to one form: where the columns of
+/// the parts follow each other in order, that takes time proportional to the number of terms.
+pub fn add_to(form: &mut Form, more: &Form) -> Result<(), LinFault>
+    ensures { AddedAnswer form.old more.now form.new result }
+{
+    let constant = match numbers::add(form.constant_part(), more.constant_part()) {
+        Ok(constant) => constant,
+        Err(_) => return Err(LinFault::Past),
+    };
+    if all_after(form.terms(), more.terms()) {
+        form.append(more.terms(), constant)?;
+        return Ok(());
+    }
+    let terms = merge(form.allocator(), form.terms(), more.terms())?;
+    *form = Form::of_terms(terms, constant);
+    Ok(())
+}
+
+// Whether both lists have terms and those of the second all stand after those of the first.
+fn all_after(left: &[Term], right: &[Term]) -> bool
+    requires left_terms { AreTerms left.now }
+    requires right_terms { AreTerms right.now }
+    ensures { IsTrue result → AreTerms (left.now ++ right.now) }
+{
+    match (left.last(), right.first()) {
+        (Some(s), Some(t)) => s.0 < t.0,
+        _ => false,
     }
 }
 

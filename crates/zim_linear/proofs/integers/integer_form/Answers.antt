@@ -1,4 +1,6 @@
+use Rattle.std.proofs.Common.{rules}
 use Rattle.zim_linear.proofs.IntegerLemmas.{common_is_least}
+use Rattle.zim_linear.proofs.WholeFormLemmas.{whole_answer}
 use Rattle.zim_linear.proofs.integers.integer_form.Goals as goal
 
 pub returns-in-Err-clause-least : goal.returns-in-Err-clause-least
@@ -9,3 +11,6 @@ returns-in_err-form-clause-least c = common_is_least c.args.a.now
 
 pub returns-clause-least : goal.returns-clause-least
 returns-clause-least c = common_is_least c.args.a.now
+
+pub returns-clause-whole : goal.returns-clause-whole
+returns-clause-whole c = whole_answer _ _ (search rules)
