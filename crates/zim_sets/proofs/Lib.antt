@@ -1,4 +1,11 @@
+pub mod ChoiceLaws
 pub mod DistinctLemmas
+pub mod FamilyLaws
+pub mod FirstLaws
 pub mod JoinLaws
+pub mod ProductLaws
+pub mod RangeLaws
 pub mod SetLemmas
 pub mod ShapeLemmas
+pub mod WalkLaws
+pub mod WayLaws

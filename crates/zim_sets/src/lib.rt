@@ -2,16 +2,26 @@
 //! the operators on them.
 //!
 //! A [`TupleSet`] keeps its tuples in the order in which they were first inserted. Contracts see it as
-//! that list, and each operator as filters and joins of lists.
+//! that list, each operator as filters and joins of lists, a range as its numbers, and a family of
+//! subsets as the list of its sets. A set has at most 1,048,576 tuples and a family as many sets; where
+//! it would have more, the call answers `SetSize`, and products, ranges and families are counted before
+//! they are built.
 #![tactic(auto)]
 
+mod copies;
+mod families;
 mod faults;
 mod operators;
+mod products;
+mod ranges;
 mod shapes;
 mod tuple_set;
 
+pub use families::{powerset, subsets};
 pub use faults::SetFault;
 pub use operators::{inter, symdiff, union, without};
+pub use products::{cross, proj};
+pub use ranges::range;
 pub use tuple_set::TupleSet;
 
 #[cfg(test)]

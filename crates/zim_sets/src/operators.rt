@@ -8,11 +8,12 @@ ghost use Rattle.zim_sets.specs.Insertion.{inserted_where};
 ghost use Rattle.zim_sets.specs.Operators.{union_of, without_of, inter_of, symdiff_of};
 ghost use Rattle.zim_sets.specs.Sets.{has, are_alike, IsSet};
 
+use crate::copies::extend_copied;
 use crate::faults::SetFault;
 use crate::shapes::is_same_shape;
 use crate::tuple_set::TupleSet;
 use std::alloc::Global;
-use zim_fault::Duplicate;
+use zim_fault::{Duplicate, Sequence};
 use zim_tuples::Tuple;
 
 // Whether two sets agree in length and kinds, or one of them is empty.
@@ -61,13 +62,15 @@ fn extend_where(
 ///
 /// `WrongKind` exactly where both have tuples and these differ in length or kinds, else `SetSize`
 /// exactly where the result has more than 1,048,576 tuples.
-pub fn union(a: &TupleSet, b: &TupleSet) -> Result<TupleSet, SetFault>
+pub fn union(alloc: Global, a: &TupleSet, b: &TupleSet) -> Result<TupleSet, SetFault>
     ensures { Gives (λ set. set) set_cause (union_of a.now b.now) result }
 {
     if !is_alike(a, b) {
         return Err(SetFault::WrongKind);
     }
-    let mut made = a.copy()?;
+    let mut tuples = Sequence::new(alloc);
+    extend_copied(&mut tuples, a.as_slice())?;
+    let mut made = TupleSet::of_tuples(tuples);
     extend_where(&mut made, b.as_slice(), a, false)?;
     Ok(made)
 }
@@ -104,8 +107,8 @@ pub fn symdiff(alloc: Global, a: &TupleSet, b: &TupleSet) -> Result<TupleSet, Se
     if !is_alike(a, b) {
         return Err(SetFault::WrongKind);
     }
-    let mut made = TupleSet::new(alloc);
-    extend_where(&mut made, a.as_slice(), b, false)?;
-    extend_where(&mut made, b.as_slice(), a, false)?;
-    Ok(made)
+    let mut apart = TupleSet::new(alloc);
+    extend_where(&mut apart, a.as_slice(), b, false)?;
+    extend_where(&mut apart, b.as_slice(), a, false)?;
+    Ok(apart)
 }

@@ -13,7 +13,7 @@ use zim_fault::{Duplicate, Memory, Sequence};
 use zim_tuples::Tuple;
 
 /// How many tuples a set has at most.
-const MOST: usize = 1_048_576;
+pub(crate) const MOST: usize = 1_048_576;
 
 /// A set of tuples of one length and the same kinds by position, in the order of first insertion.
 #[derive(Debug, Drop)]
@@ -43,6 +43,14 @@ impl TupleSet {
         TupleSet {
             tuples: Sequence::new(alloc),
         }
+    }
+
+    // The set of these tuples, in their order.
+    pub(crate) fn of_tuples(tuples: Sequence<Tuple>) -> TupleSet
+        requires { IsSet tuples }
+        ensures { result ≡ tuples }
+    {
+        TupleSet { tuples }
     }
 
     /// How many tuples the set has, at most 1,048,576.

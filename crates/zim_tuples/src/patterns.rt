@@ -4,6 +4,7 @@ ghost use Rattle.zim_tuples.specs.Patterns.{slot_agrees, agrees, bound_by, bound
 
 use crate::elements::{Elem, Tuple};
 use crate::environments::{Binding, Env};
+use std::alloc::Global;
 use zim_fault::{Bytes, Duplicate, Memory};
 
 /// What a component of a pattern asks of the tuple's component at its position.
@@ -63,11 +64,22 @@ fn bind(env: &mut Env, slot: &Slot, component: &Elem) -> Result<(), Memory>
     Ok(())
 }
 
+// An equal environment.
+fn copied(alloc: Global, env: &[Binding]) -> Result<Env, Memory>
+    ensures { IfOk result (λ more. more ≡ env.now) }
+{
+    let mut more = Env::new(alloc);
+    for binding in env {
+        more.push(binding.copy()?)?;
+    }
+    Ok(more)
+}
+
 // The environment with what the slots bind added at its end.
-fn extended(env: &Env, slots: &[Slot], tuple: &[Elem]) -> Result<Env, Memory>
+fn extended(alloc: Global, env: &Env, slots: &[Slot], tuple: &[Elem]) -> Result<Env, Memory>
     ensures { IfOk result (λ more. more ≡ env.now ++ bound slots.now tuple.now) }
 {
-    let mut more = env.copy()?;
+    let mut more = copied(alloc, env.as_slice())?;
     for (slot, component) in slots.iter().zip(tuple.iter()) {
         bind(&mut more, slot, component)?;
     }
@@ -80,12 +92,17 @@ fn extended(env: &Env, slots: &[Slot], tuple: &[Elem]) -> Result<Env, Memory>
 /// None exactly where the tuple has not as many components as there are slots, or a component differs
 /// from a fixed slot's element or from the component of the position that a repeated slot names. A
 /// position that the tuple hasn't differs from each.
-pub fn match_pattern(env: &Env, slots: &[Slot], tuple: &Tuple) -> Result<Option<Env>, Memory>
+pub fn match_pattern(
+    alloc: Global,
+    env: &Env,
+    slots: &[Slot],
+    tuple: &Tuple,
+) -> Result<Option<Env>, Memory>
     ensures { IfOk result (λ found. found ≡ matched env.now slots.now tuple.now) }
 {
     let tuple = tuple.as_slice();
     if is_match(slots, tuple) {
-        Ok(Some(extended(env, slots, tuple)?))
+        Ok(Some(extended(alloc, env, slots, tuple)?))
     } else {
         Ok(None)
     }

@@ -11,7 +11,7 @@ fn a_pattern_binds_its_free_names(rt: HostRuntime) -> Result<(), Fail> {
     tuple.push(Elem::Number(Fraction::whole(3)))?;
     let slots = [Slot::Free(Bytes::from_slice(alloc, b"i")?), Slot::Again(0)];
     let env = Env::new(alloc);
-    let found = match_pattern(&env, &slots, &tuple)?.ok_or("no match")?;
+    let found = match_pattern(alloc, &env, &slots, &tuple)?.ok_or("no match")?;
     assert_eq!(rt; found.len(), 1);
     Ok(())
 }

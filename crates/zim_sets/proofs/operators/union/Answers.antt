@@ -18,12 +18,12 @@ returns-in_err-extend_where c =
     let p = err_from_is_err_and c.from_residual-in_err-extend_where.result c.from_residual-in_err-extend_where.ensures.1 in
     let step = inserted_where (λ t. beq (has c.args.a.now t) false) in
     let made = union_made c.args.a.now c.args.b.now c.is_alike.ensures.first c.is_alike.ensures.second (sym c.is_alike.ensures.answer ∙ c.if-not-is_alike.false) in
-    let same : goes step c.in_ok-made.made c.as_slice.result.now ≡ union_of c.args.a.now c.args.b.now = rw (c.in_ok-made.ensures, c.as_slice.ensures.value) made in
-    rw (p.1, p.2) (Stops-equal (goes step c.in_ok-made.made c.as_slice.result.now) (union_of c.args.a.now c.args.b.now) (set_cause c.in_err-extend_where.field-0.0) same c.in_err-extend_where.ensures)
+    let same : goes step c.of_tuples-made.result c.as_slice-2.result.now ≡ union_of c.args.a.now c.args.b.now = rw (c.of_tuples-made.ensures, c.in_ok-extend_copied.ensures, c.new-tuples.ensures, c.as_slice.ensures.value, c.as_slice-2.ensures.value) made in
+    rw (p.1, p.2) (Stops-equal (goes step c.of_tuples-made.result c.as_slice-2.result.now) (union_of c.args.a.now c.args.b.now) (set_cause c.in_err-extend_where.field-0.0) same c.in_err-extend_where.ensures)
 
 pub returns : goal.returns
 returns c =
     let step = inserted_where (λ t. beq (has c.args.a.now t) false) in
     let made = union_made c.args.a.now c.args.b.now c.is_alike.ensures.first c.is_alike.ensures.second (sym c.is_alike.ensures.answer ∙ c.if-not-is_alike.false) in
-    let same : goes step c.in_ok-made.made c.as_slice.result.now ≡ union_of c.args.a.now c.args.b.now = rw (c.in_ok-made.ensures, c.as_slice.ensures.value) made in
+    let same : goes step c.of_tuples-made.result c.as_slice-2.result.now ≡ union_of c.args.a.now c.args.b.now = rw (c.of_tuples-made.ensures, c.in_ok-extend_copied.ensures, c.new-tuples.ensures, c.as_slice.ensures.value, c.as_slice-2.ensures.value) made in
     sym same ∙ c.in_ok-extend_where.ensures
