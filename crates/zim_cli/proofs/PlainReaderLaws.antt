@@ -1,15 +1,15 @@
 -- What the reading functions find spells the tokens that they took, and each spelling is found.
 use Rattle.std.proofs.Common.{◌≡◌, ◌<◌, Bool, true, false, List, [], ◌∷◌, ◌++◌, length, Option, Some, None, refl, sym, ◌∙◌, ap, arith, append_assoc, append-nil, length-append}
-use Rattle.std.specs.Prelude.{if◌then◌else◌, option_map}
+use Rattle.std.specs.Prelude.{if◌then◌else◌}
 use Rattle.std.specs.List.{flat_map}
 use Rattle.zim_fault.specs.declared.signs.Sign.TheVariants.{SSemicolon, SColon, SLessEqual, SGreaterEqual, SEqual, SPlus, SMinus, SStar}
-use Rattle.zim_fault.specs.declared.words.Word.TheVariants.{WVar, WMinimize, WSubto}
+use Rattle.zim_fault.specs.declared.words.Word.TheVariants.{WVar, WMinimize, WMaximize, WSubto}
 use Rattle.zim_fault.specs.declared.tokens.Token.{Token}
 use Rattle.zim_fault.specs.declared.tokens.Token.TheVariants as token
-use Rattle.zim_lp.specs.declared.plain.Sense.{Sense}
-use Rattle.zim_lp.specs.declared.plain.Sense.TheVariants.{AtMost, AtLeast, Equal}
-use Rattle.zim_cli.specs.PlainForm.{Text, Item, Terms, Statement, Variable, Objective, Constraint, Model, spelled_minus, spelled_coefficient, spelled_item, spelled_other, spelled_terms, sign_of_sense, spelled_statement, spelled}
-use Rattle.zim_cli.specs.PlainReader.{◌>>=◌, name_at, digits_at, colon_at, semicolon_at, star_at, sign_at, minus_at, sense_at, coefficient_at, item_at, wanted, other_after, other_step, terms_at, variable_at, objective_at, right_at, constraint_at, statement_at, statement_step, model_at}
+use Rattle.zim_rows.specs.declared.rows.Sense.{Sense}
+use Rattle.zim_rows.specs.declared.rows.Sense.TheVariants.{AtMost, AtLeast, Equal}
+use Rattle.zim_cli.specs.PlainForm.{Text, Item, Terms, Statement, Variable, Objective, Constraint, word_of_aim, spelled_minus, spelled_coefficient, spelled_item, spelled_other, spelled_terms, sign_of_sense, spelled_statement}
+use Rattle.zim_cli.specs.PlainReader.{◌>>=◌, name_at, digits_at, colon_at, semicolon_at, star_at, sign_at, minus_at, sense_at, coefficient_at, item_at, wanted, other_after, other_step, terms_at, variable_at, objective_at, right_at, constraint_at, statement_at}
 use Rattle.zim_cli.specs.Many.{Step, End, More, many}
 use Rattle.zim_cli.proofs.ManyLaws.{found_same, Takes, many-sound, many-spelled}
 
@@ -143,14 +143,14 @@ variable-sound ts s rest e =
     ∙ (ap (λ z. token.Word WVar ∷ token.Name name.0.0 ∷ z) ended
     ∙ (ap (λ (t : Statement). spelled_statement t ++ end.0) both.0 ∙ ap (λ z. spelled_statement s ++ z) both.1))
 
-objective-sound : (ts : List Token) (s : Statement) (rest : List Token) → ◌≡◌ {A = Option (Statement × List Token)} (objective_at ts) (Some (s, rest)) → token.Word WMinimize ∷ ts ≡ spelled_statement s ++ rest
+objective-sound : (maximize : Bool) (ts : List Token) (s : Statement) (rest : List Token) → ◌≡◌ {A = Option (Statement × List Token)} (objective_at maximize ts) (Some (s, rest)) → token.Word (word_of_aim maximize) ∷ ts ≡ spelled_statement s ++ rest
 unfolding objective_at
-objective-sound ts s rest e =
+objective-sound maximize ts s rest e =
     let name = bind-some (name_at ts) _ (s, rest) e in
     let colon = bind-some (colon_at name.0.1) _ (s, rest) name.1.1 in
     let terms = bind-some (terms_at colon.0) _ (s, rest) colon.1.1 in
     let end = bind-some (semicolon_at terms.0.1) _ (s, rest) terms.1.1 in
-    let made : Statement = Objective name.0.0 terms.0.0 in
+    let made : Statement = Objective maximize name.0.0 terms.0.0 in
     let both = found_same made s end.0 rest end.1.1 in
     let named : ts ≡ token.Name name.0.0 ∷ name.0.1 = name-sound ts name.0.0 name.0.1 name.1.0 in
     let coloned : name.0.1 ≡ token.Sign SColon ∷ colon.0 = colon-sound name.0.1 colon.0 colon.1.0 in
@@ -158,9 +158,9 @@ objective-sound ts s rest e =
     let ended : terms.0.1 ≡ token.Sign SSemicolon ∷ end.0 = semicolon-sound terms.0.1 end.0 end.1.0 in
     let inner : colon.0 ≡ (spelled_terms terms.0.0 ++ token.Sign SSemicolon ∷ []) ++ end.0 =
     listed ∙ (ap (λ z. spelled_terms terms.0.0 ++ z) ended ∙ sym (append_assoc (spelled_terms terms.0.0) (token.Sign SSemicolon ∷ []) end.0)) in
-    ap (λ z. token.Word WMinimize ∷ z) named
-    ∙ (ap (λ z. token.Word WMinimize ∷ token.Name name.0.0 ∷ z) coloned
-    ∙ (ap (λ z. token.Word WMinimize ∷ token.Name name.0.0 ∷ token.Sign SColon ∷ z) inner
+    ap (λ z. token.Word (word_of_aim maximize) ∷ z) named
+    ∙ (ap (λ z. token.Word (word_of_aim maximize) ∷ token.Name name.0.0 ∷ z) coloned
+    ∙ (ap (λ z. token.Word (word_of_aim maximize) ∷ token.Name name.0.0 ∷ token.Sign SColon ∷ z) inner
     ∙ (ap (λ (t : Statement). spelled_statement t ++ end.0) both.0 ∙ ap (λ z. spelled_statement s ++ z) both.1)))
 
 right-sound : (ts : List Token) (negative : Bool) (digits : Text) (rest : List Token) → ◌≡◌ {A = Option ((Bool × Text) × List Token)} (right_at ts) (Some ((negative, digits), rest)) → ts ≡ spelled_minus negative ++ (token.Number digits ∷ rest)
@@ -205,47 +205,14 @@ constraint-sound ts s rest e =
     ∙ (ap (λ z. token.Word WSubto ∷ token.Name name.0.0 ∷ token.Sign SColon ∷ z) inner
     ∙ (ap (λ (t : Statement). spelled_statement t ++ end.0) both.0 ∙ ap (λ z. spelled_statement s ++ z) both.1)))
 
-statement-sound : (ts : List Token) (s : Statement) (rest : List Token) → ◌≡◌ {A = Option (Statement × List Token)} (statement_at ts) (Some (s, rest)) → ts ≡ spelled_statement s ++ rest
+pub statement-sound : (ts : List Token) (s : Statement) (rest : List Token) → ◌≡◌ {A = Option (Statement × List Token)} (statement_at ts) (Some (s, rest)) → ts ≡ spelled_statement s ++ rest
 unfolding statement_at
 statement-sound [] s rest e = cc
 statement-sound (token.Word WVar ∷ ts) s rest e = variable-sound ts s rest e
-statement-sound (token.Word WMinimize ∷ ts) s rest e = objective-sound ts s rest e
+statement-sound (token.Word WMinimize ∷ ts) s rest e = objective-sound false ts s rest e
+statement-sound (token.Word WMaximize ∷ ts) s rest e = objective-sound true ts s rest e
 statement-sound (token.Word WSubto ∷ ts) s rest e = constraint-sound ts s rest e
 statement-sound (_ ∷ ts) s rest e = cc
-
-statement-reads : (ts : List Token) (s : Statement) (rest : List Token) → statement_step ts ≡ More s rest → ts ≡ spelled_statement s ++ rest
-unfolding statement_step
-statement-reads [] s rest e = cc
-statement-reads (t ∷ ts) s rest e = by_found (statement_at (t ∷ ts)) refl e
-  where
-    by_found : (o : Option (Statement × List Token)) → statement_at (t ∷ ts) ≡ o → wanted o ≡ More s rest → t ∷ ts ≡ spelled_statement s ++ rest
-    by_found None f g = cc
-    by_found (Some found) f g =
-        let same : found.0 ≡ s = cc in
-        let left : found.1 ≡ rest = cc in
-        statement-sound (t ∷ ts) found.0 found.1 f ∙ (ap (λ x. spelled_statement x ++ found.1) same ∙ ap (λ z. spelled_statement s ++ z) left)
-
-no_statement-end : (ts : List Token) → statement_step ts ≡ End → ts ≡ []
-unfolding statement_step
-no_statement-end [] e = refl
-no_statement-end (t ∷ ts) e = by_found (statement_at (t ∷ ts)) e
-  where
-    by_found : (o : Option (Statement × List Token)) → wanted o ≡ End → t ∷ ts ≡ []
-    by_found None g = cc
-    by_found (Some found) g = cc
-
--- a model that is found is spelled by the tokens
-pub model-sound : (ts : List Token) (model : Model) → model_at ts ≡ Some model → spelled model ≡ ts
-unfolding model_at
-model-sound ts model e = by_found (many statement_step ts) refl e
-  where
-    by_found : (o : Option (List Statement × List Token)) → many statement_step ts ≡ o → option_map (λ (found : List Statement × List Token). found.0) o ≡ Some model → spelled model ≡ ts
-    by_found None f g = cc
-    by_found (Some found) f g =
-        let same : found.0 ≡ model = cc in
-        let read = many-sound statement_step spelled_statement statement-reads ts found.0 found.1 f in
-        let none : found.1 ≡ [] = no_statement-end found.1 read.1 in
-        sym (read.0 ∙ (ap (λ z. flat_map spelled_statement found.0 ++ z) none ∙ (append-nil (flat_map spelled_statement found.0) ∙ ap (λ m. flat_map spelled_statement m) same)))
 
 -- ---- completeness
 
@@ -258,16 +225,8 @@ takes_from_reads next spell reads some = record {
 other-some : (item : Item) → 0 < length (spelled_other item)
 other-some item = omega arith
 
-statement-some : (s : Statement) → 0 < length (spelled_statement s)
-statement-some (Variable name) = omega arith
-statement-some (Objective name terms) = omega arith
-statement-some (Constraint name terms sense negative digits) = omega arith
-
 pub other-takes : Takes other_step
 other-takes = takes_from_reads other_step spelled_other other-reads other-some
-
-pub statement-takes : Takes statement_step
-statement-takes = takes_from_reads statement_step spelled_statement statement-reads statement-some
 
 item_parts-spelled : (negative : Bool) (c : Option Text) (name : Text) (rest : List Token) → item_at negative ((spelled_coefficient c ++ token.Name name ∷ []) ++ rest) ≡ Some (record { negative = negative; coefficient = c; name = name }, rest)
 unfolding item_at coefficient_at star_at name_at
@@ -300,12 +259,17 @@ terms-spelled terms rest stop =
     let others : many other_step more ≡ Some (terms.others, rest) = many-spelled other_step other-takes spelled_other other-spelled terms.others rest none in
     ap terms_at regrouped ∙ rw (minus, item, others) refl
 
-objective-spelled : (name : Text) (terms : Terms) (rest : List Token) → statement_at (spelled_statement (Objective name terms) ++ rest) ≡ Some (Objective name terms, rest)
-unfolding statement_at objective_at name_at colon_at semicolon_at sign_at
-objective-spelled name terms rest =
+objective_part-spelled : (maximize : Bool) (name : Text) (terms : Terms) (rest : List Token) → objective_at maximize (token.Name name ∷ token.Sign SColon ∷ ((spelled_terms terms ++ token.Sign SSemicolon ∷ []) ++ rest)) ≡ Some (Objective maximize name terms, rest)
+unfolding objective_at name_at colon_at semicolon_at sign_at
+objective_part-spelled maximize name terms rest =
     let regrouped : (spelled_terms terms ++ token.Sign SSemicolon ∷ []) ++ rest ≡ spelled_terms terms ++ (token.Sign SSemicolon ∷ rest) = append_assoc (spelled_terms terms) (token.Sign SSemicolon ∷ []) rest in
     let found : terms_at (spelled_terms terms ++ (token.Sign SSemicolon ∷ rest)) ≡ Some (terms, token.Sign SSemicolon ∷ rest) = terms-spelled terms (token.Sign SSemicolon ∷ rest) refl in
     rw (regrouped, found) refl
+
+objective-spelled : (maximize : Bool) (name : Text) (terms : Terms) (rest : List Token) → statement_at (spelled_statement (Objective maximize name terms) ++ rest) ≡ Some (Objective maximize name terms, rest)
+unfolding statement_at
+objective-spelled true name terms rest = objective_part-spelled true name terms rest
+objective-spelled false name terms rest = objective_part-spelled false name terms rest
 
 stops_at_sense : (sense : Sense) (rest : List Token) → sign_at (token.Sign (sign_of_sense sense) ∷ rest) ≡ None
 unfolding sign_at
@@ -335,28 +299,19 @@ constraint-spelled name terms sense negative digits rest =
     let righted : right_at after ≡ Some ((negative, digits), token.Sign SSemicolon ∷ rest) = right-spelled negative digits (token.Sign SSemicolon ∷ rest) in
     rw (regrouped, found, sensed, righted) refl
 
-statement-spelled : (s : Statement) (rest : List Token) → statement_at (spelled_statement s ++ rest) ≡ Some (s, rest)
+pub statement-spelled : (s : Statement) (rest : List Token) → statement_at (spelled_statement s ++ rest) ≡ Some (s, rest)
 unfolding statement_at variable_at name_at semicolon_at
 statement-spelled (Variable name) rest = refl
-statement-spelled (Objective name terms) rest = objective-spelled name terms rest
+statement-spelled (Objective maximize name terms) rest = objective-spelled maximize name terms rest
 statement-spelled (Constraint name terms sense negative digits) rest = constraint-spelled name terms sense negative digits rest
 
-step-spelled : (s : Statement) (rest : List Token) → statement_step (spelled_statement s ++ rest) ≡ More s rest
-unfolding statement_step
-step-spelled (Variable name) rest = ap wanted (statement-spelled (Variable name) rest)
-step-spelled (Objective name terms) rest = ap wanted (statement-spelled (Objective name terms) rest)
-step-spelled (Constraint name terms sense negative digits) rest = ap wanted (statement-spelled (Constraint name terms sense negative digits) rest)
+-- a statement is spelled in one way, and nothing that begins with its spelling is another one
+pub spelled-front : (s t : Statement) (rest : List Token) → spelled_statement s ≡ spelled_statement t ++ rest → (s ≡ t) × (rest ≡ [])
+spelled-front s t rest e =
+    let found : ◌≡◌ {A = Option (Statement × List Token)} (Some (s, [])) (Some (t, rest)) =
+    sym (statement-spelled s []) ∙ (ap statement_at (append-nil (spelled_statement s) ∙ e) ∙ statement-spelled t rest) in
+    let both = found_same s t [] rest found in
+    (both.0, sym both.1)
 
--- the model that tokens spell is found
-pub model-spelled : (model : Model) → model_at (spelled model) ≡ Some model
-unfolding model_at statement_step
-model-spelled model =
-    let found : many statement_step (flat_map spelled_statement model ++ []) ≡ Some (model, []) = many-spelled statement_step statement-takes spelled_statement step-spelled model [] refl in
-    let whole : many statement_step (spelled model) ≡ Some (model, []) = ap (many statement_step) (sym (append-nil (spelled model))) ∙ found in
-    ap (option_map (λ (found : List Statement × List Token). found.0)) whole
-
--- tokens spell one model at most
-pub spelled-one : (model other : Model) → spelled model ≡ spelled other → model ≡ other
-spelled-one model other e =
-    let same : Some model ≡ Some other = sym (model-spelled model) ∙ (ap model_at e ∙ model-spelled other) in
-    cc
+pub spelled-one : (s t : Statement) → spelled_statement s ≡ spelled_statement t → s ≡ t
+spelled-one s t e = (spelled-front s t [] (e ∙ sym (append-nil (spelled_statement t)))).0

@@ -1,15 +1,15 @@
 -- The steps of the loops that read items and statements.
-use Rattle.std.proofs.Common.{◌≡◌, ◌<◌, Bool, List, [], ◌∷◌, ◌++◌, length, Option, Some, None, refl, ◌∙◌, ap, arith, append-nil}
+use Rattle.std.proofs.Common.{◌≡◌, ◌<◌, Bool, List, [], ◌∷◌, ◌++◌, length, Option, Some, None, ◌∙◌, ap, arith, append-nil}
 use Rattle.std.proofs.lemmas.List.{length-map}
 use Rattle.zim_fault.specs.declared.tokens.Token.{Token}
 use Rattle.zim_fault.specs.declared.tokens.Placed.{Placed}
-use Rattle.zim_cli.specs.PlainForm.{Item, Statement}
+use Rattle.zim_cli.specs.PlainForm.{Item}
 use Rattle.zim_cli.specs.declared.stop.Stop.{Stop}
 use Rattle.zim_cli.specs.declared.stop.Stop.TheVariants.{OutOfMemory, Outside}
-use Rattle.zim_cli.specs.PlainReader.{Stops, tokens_of, sign_at, item_at, wanted, other_after, other_step, statement_at, statement_step}
+use Rattle.zim_cli.specs.PlainReader.{Stops, tokens_of, sign_at, item_at, wanted, other_after, other_step}
 use Rattle.zim_cli.specs.Many.{More, onto, many}
 use Rattle.zim_cli.proofs.ManyLaws.{onto-onto, many-end, many-wrong, many-more}
-use Rattle.zim_cli.proofs.PlainReaderLaws.{other-takes, statement-takes}
+use Rattle.zim_cli.proofs.PlainReaderLaws.{other-takes}
 
 other_step-more : (ts after rest : List Token) (negative : Bool) (item : Item) → sign_at ts ≡ Some (negative, after) → item_at negative after ≡ Some (item, rest) → other_step ts ≡ More item rest
 unfolding other_step
@@ -30,30 +30,6 @@ other_breaks whole xs ts after negative w s i = w ∙ ap (onto xs) (many-wrong o
 pub other_shrinks : (before rest : List Placed) (after : List Token) (negative : Bool) (item : Item) → sign_at (tokens_of before) ≡ Some (negative, after) → item_at negative after ≡ Some (item, tokens_of rest) → length rest < length before
 other_shrinks before rest after negative item s i =
     let l : length (tokens_of rest) < length (tokens_of before) = other-takes.takes (tokens_of before) item (tokens_of rest) (other_step-more (tokens_of before) after (tokens_of rest) negative item s i) in
-    omega (arith, length-map before (λ (p : Placed). p.token), length-map rest (λ (p : Placed). p.token))
-
-statement_step-more : (ts rest : List Token) (s : Statement) → statement_at ts ≡ Some (s, rest) → statement_step ts ≡ More s rest
-unfolding statement_step statement_at
-statement_step-more [] rest s e = cc
-statement_step-more (t ∷ ts) rest s e = ap wanted e
-
-pub statement_more : (whole : Option (List Statement × List Token)) (xs : List Statement) (ts rest : List Token) (s : Statement) → whole ≡ onto xs (many statement_step ts) → statement_at ts ≡ Some (s, rest) → whole ≡ onto (xs ++ s ∷ []) (many statement_step rest)
-statement_more whole xs ts rest s w e =
-    w ∙ (ap (onto xs) (many-more statement_step statement-takes ts s rest (statement_step-more ts rest s e)) ∙ onto-onto xs (s ∷ []) (many statement_step rest))
-
-pub statement_breaks : (whole : Option (List Statement × List Token)) (xs : List Statement) (left : List Placed) → whole ≡ onto xs (many statement_step (tokens_of left)) → 0 < length left → statement_at (tokens_of left) ≡ None → whole ≡ None
-unfolding statement_step
-statement_breaks whole xs [] w l e = absurd (omega arith)
-statement_breaks whole xs (p ∷ left) w l e = w ∙ ap (onto xs) (many-wrong statement_step (tokens_of (p ∷ left)) (ap wanted e))
-
-pub statement_stops : (whole : Option (List Statement × List Token)) (xs : List Statement) (left : List Placed) → whole ≡ onto xs (many statement_step (tokens_of left)) → length left ≡ 0 → whole ≡ Some (xs, [])
-unfolding statement_step
-statement_stops whole xs (p ∷ left) w l = absurd (omega arith)
-statement_stops whole xs [] w l = w ∙ (ap (onto xs) (many-end statement_step [] refl) ∙ ap (λ ys. Some (ys, [])) (append-nil xs))
-
-pub statement_shrinks : (before rest : List Placed) (s : Statement) → statement_at (tokens_of before) ≡ Some (s, tokens_of rest) → length rest < length before
-statement_shrinks before rest s e =
-    let l : length (tokens_of rest) < length (tokens_of before) = statement-takes.takes (tokens_of before) s (tokens_of rest) (statement_step-more (tokens_of before) (tokens_of rest) s e) in
     omega (arith, length-map before (λ (p : Placed). p.token), length-map rest (λ (p : Placed). p.token))
 
 -- a stop stands for the whole where what stopped breaks the whole

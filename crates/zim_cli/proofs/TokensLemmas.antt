@@ -37,7 +37,7 @@ one_tokens _ _ b (more line lines first others at rest) second =
     ∙ ap (λ (back : List Placed). p.first ++ back) (one_tokens lines others p.others rest p.of_lines)
     ∙ sym p.whole
 
-stuck_line : (line : Line) (tokens : List Placed) → IsStuck line.bytes → AreLineTokens line tokens → ⊥
+pub stuck_line : (line : Line) (tokens : List Placed) → IsStuck line.bytes → AreLineTokens line tokens → ⊥
 stuck_line line tokens stuck are =
     let one : cut line.bytes ≡ Err BadByte = is_stuck line.bytes stuck in
     let other : cut line.bytes ≡ Ok are.pieces = is_cut are.pieces line.bytes are.cut in

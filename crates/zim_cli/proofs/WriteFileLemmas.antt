@@ -9,7 +9,7 @@ use Rattle.zim_gate.specs.Folder.{FolderState, Files, Begins, Appends, StopsIn, 
 use Rattle.zim_gate.specs.declared.stops.BeginStop.{BeginStop}
 use Rattle.zim_gate.specs.declared.stops.BeginStop.TheVariants as stop
 use Rattle.zim_gate.specs.declared.stops.Failed.{Failed}
-use Rattle.zim_cli.specs.WriteFile.{KeepsFiles, HoldsOnly, IsStoppedAt, WritesFile}
+use Rattle.zim_cli.specs.WriteFile.{KeepsFiles, HoldsOnly, IsPartOf, WritesFile}
 
 -- to put bytes to a file that was just begun is to make it hold them
 put_to-emptied : (name bytes : List ℕ) (files : Files) → put_to (Some name) bytes (emptied name files) ≡ map.insert files name bytes
@@ -54,14 +54,14 @@ begun_or_kept : (before now : FolderState) (name : List ℕ) → now.wrote ≡ b
 begun_or_kept before now name wrote (inl kept) = inl (record { held = kept; wrote = wrote })
 begun_or_kept before now name wrote (inr emptied_now) = inr (holds-nothing before now name emptied_now wrote)
 
-stopped_at_once : (before now : FolderState) (name text : List ℕ) → KeepsFiles before now ⊎ HoldsOnly before now name [] → IsStoppedAt before now name text
+stopped_at_once : (before now : FolderState) (name text : List ℕ) → KeepsFiles before now ⊎ HoldsOnly before now name [] → IsPartOf before now name text
 stopped_at_once before now name text (inl kept) = inl kept
 stopped_at_once before now name text (inr holds) = inr ([], no_bytes-front text, holds)
 
 begin_stopped : (before now : FolderState) (name text : List ℕ) (s : BeginStop) → Begins before now name (Err s) → WritesFile before now name text (Err s)
 begin_stopped before now name text s begins =
     let left : KeepsFiles before now ⊎ HoldsOnly before now name [] = begun_or_kept before now name begins.wrote begins.err in
-    record { ok = tt; err = stopped_at_once before now name text left; failed = begins.failed; refused = λ _. left }
+    record { ok = tt; err = stopped_at_once before now name text left; failed = begins.failed; refused = λ _. left; write_faults = begins.write_faults }
 
 -- the begin was refused
 pub begin_failed : (before now : FolderState) (name text : List ℕ) (b : Result ⊤ BeginStop) (s : BeginStop) → b ≡ Err s → Begins before now name b → WritesFile before now name text (Err s)
@@ -81,8 +81,8 @@ well-no_err : {A E : Type 0} (a : A) (e : E) → IsErrOf (Ok a) e → ⊥
 well-no_err a e h = cc
 
 -- a failure is no want of memory
-failed-no_memory : (r : Result ⊤ BeginStop) → r ≡ Err stop.Failed → IsErrOf r stop.Memory → ⊥
-failed-no_memory r failed refused = cc
+failed-no_memory : IsErrOf {T = ⊤} (Err stop.Failed) stop.Memory → ⊥
+failed-no_memory h = cc
 
 put_stopped : (before begun now : FolderState) (name text : List ℕ) → Begins before begun name (Ok tt) → StopsIn begun now text →
     WritesFile before now name text (Err stop.Failed)
@@ -90,7 +90,8 @@ put_stopped before begun now name text begins stops = record {
   ok = tt;
   err = inr (stops.bytes, stops.front, holds-put before begun now name stops.bytes begins stops.appends);
   failed = λ _. Rose-from before.write_faults begun.write_faults now.write_faults begins.write_faults stops.rose;
-  refused = λ h. absurd (failed-no_memory (Err stop.Failed) refl h);
+  refused = λ h. absurd (failed-no_memory h);
+  write_faults = omega (arith, begins.write_faults, stops.appends.write_faults);
 }
 
 -- a put failed after the file was begun
@@ -113,7 +114,8 @@ end_stopped before begun put now name text f begins appends ends = record {
       Rose-from before.write_faults put.write_faults now.write_faults
       (omega (arith, begins.write_faults, appends.write_faults))
       ends.failed;
-  refused = λ h. absurd (failed-no_memory (Err stop.Failed) refl h);
+  refused = λ h. absurd (failed-no_memory h);
+  write_faults = omega (arith, begins.write_faults, appends.write_faults, ends.write_faults);
 }
 
 -- the file was put whole, and its end failed
@@ -132,6 +134,7 @@ ended_well before begun put now name text e begins appends ends = record {
   err = tt;
   failed = λ h. absurd (well-no_err tt stop.Failed h);
   refused = λ h. absurd (well-no_err tt stop.Memory h);
+  write_faults = omega (arith, begins.write_faults, appends.write_faults, ends.write_faults);
 }
 
 -- the file was put whole and ended
@@ -142,3 +145,28 @@ file_written before begun put now name text b p e well good begins puts ends =
     (subst (λ (r : Result ⊤ BeginStop). Begins before begun name r) well begins)
     (appended begun put text p good puts)
     ends
+
+-- a file was begun and ended, with nothing put to it
+pub file_cleared : (before begun now : FolderState) (name : List ℕ) (b : Result ⊤ BeginStop) (e : Result ⊤ Failed) → b ≡ Ok tt → Begins before begun name b → Ends begun now e → WritesFile before now name [] (Ok tt)
+file_cleared before begun now name b e well begins ends =
+    let at : Begins before begun name (Ok tt) = subst (λ (r : Result ⊤ BeginStop). Begins before begun name r) well begins in
+    record {
+      ok = holds-end before begun now name [] e (holds-nothing before begun name at.ok at.wrote) ends;
+      err = tt;
+      failed = λ h. absurd (well-no_err tt stop.Failed h);
+      refused = λ h. absurd (well-no_err tt stop.Memory h);
+      write_faults = omega (arith, begins.write_faults, ends.write_faults);
+    }
+
+-- its end failed
+pub clear_failed : (before begun now : FolderState) (name : List ℕ) (b : Result ⊤ BeginStop) (e : Result ⊤ Failed) (f : Failed) → b ≡ Ok tt → e ≡ Err f → Begins before begun name b → Ends begun now e → WritesFile before now name [] (Err stop.Failed)
+clear_failed before begun now name b e f well bad begins ends =
+    let at : Begins before begun name (Ok tt) = subst (λ (r : Result ⊤ BeginStop). Begins before begun name r) well begins in
+    let rose : Rose begun.write_faults now.write_faults = (subst (λ (r : Result ⊤ Failed). Ends begun now r) bad ends).failed in
+    record {
+      ok = tt;
+      err = inr ([], whole-front [], holds-end before begun now name [] e (holds-nothing before begun name at.ok at.wrote) ends);
+      failed = λ _. Rose-from before.write_faults begun.write_faults now.write_faults begins.write_faults rose;
+      refused = λ h. absurd (failed-no_memory h);
+      write_faults = omega (arith, begins.write_faults, ends.write_faults);
+    }

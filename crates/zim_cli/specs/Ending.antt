@@ -1,9 +1,13 @@
 -- The status and the line of each ending of a run.
-use Rattle.std.specs.Prelude.{ℕ, ◌<◌, ◌⊎◌, List, [], ◌++◌, length, codes, ⊤}
+use Rattle.std.specs.Prelude.{ℕ, ◌<◌, ◌⊎◌, List, [], ◌++◌, length, codes, Result, Ok, Err, ⊤}
 use Rattle.zim_gate.specs.FaultLine.{fault_text}
 use Rattle.zim_gate.specs.Sink.{SinkState, SinkAppends, SinkStopsIn}
 use Rattle.zim_cli.specs.declared.ending.Ending.{Ending}
 use Rattle.zim_cli.specs.declared.ending.Ending.TheVariants.{Done, Usage, Refused, Unread, Unwritten, Memory}
+use Rattle.zim_cli.specs.declared.outputs.OutputNames.{OutputNames}
+use Rattle.zim_cli.specs.declared.outputs.OutputStop.{OutputStop}
+use Rattle.zim_cli.specs.declared.outputs.OutputStop.TheVariants as stop
+use Rattle.zim_cli.specs.Outputs.{name_in}
 use Rattle.zim_cli.specs.declared.status.Status.{Status}
 use Rattle.zim_cli.specs.declared.status.Status.TheVariants as status
 
@@ -33,3 +37,9 @@ line_of Memory = codes "zimplc: out of memory\n"
 -- A sink took the line, or a first part of it where its count rose.
 abbrev pub TakesLine : SinkState → SinkState → List ℕ → Type 0
 TakesLine before now line = SinkAppends before now line ⊎ SinkStopsIn before now line
+
+-- The ending of a run whose files were written, or which stopped at one of them.
+abbrev pub ending_of_writing : OutputNames → Result ⊤ OutputStop → Ending
+ending_of_writing names (Ok _) = Done
+ending_of_writing names (Err (stop.Unwritten output)) = Unwritten (name_in names output)
+ending_of_writing names (Err stop.Memory) = Memory

@@ -1,21 +1,46 @@
--- Whether lines are those of a model of plain form.
-use Rattle.std.specs.Prelude.{List}
+-- The model that lines are, or the first fault that they have.
+use Rattle.std.specs.Prelude.{◌≡◌, ℕ, List, Result, Ok, Err}
+use Rattle.zim_fault.specs.declared.faults.Fault.{Fault}
+use Rattle.zim_fault.specs.declared.faults.Place.{Place}
+use Rattle.zim_fault.specs.declared.kinds.Kind.{Kind}
+use Rattle.zim_fault.specs.declared.kinds.Kind.TheVariants.{Syntax, OpenStatement}
 use Rattle.zim_fault.specs.declared.tokens.Placed.{Placed}
 use Rattle.zim_lex.specs.declared.lines.Line.{Line}
-use Rattle.zim_lex.specs.Tokens.{AreTokens}
+use Rattle.zim_lex.specs.declared.lines.Span.{Span}
+use Rattle.zim_lex.specs.Tokens.{AreTokens, IsFirstStuck}
+use Rattle.zim_lex.specs.Statements.{statements_of}
 use Rattle.zim_cli.specs.declared.plain_form.PlainModel.{PlainModel}
-use Rattle.zim_cli.specs.PlainForm.{Model}
+use Rattle.zim_cli.specs.declared.stop.ReadStop.{ReadStop}
+use Rattle.zim_cli.specs.declared.stop.ReadStop.TheVariants as reading
+use Rattle.zim_cli.specs.PlainForm.{Model, IsPlain}
 use Rattle.zim_cli.specs.PlainSystem.{Says}
-use Rattle.zim_cli.specs.Reading.{Spells}
+use Rattle.zim_cli.specs.Segments.{Spell, IsBroken}
 
--- The tokens of the lines spell a model of plain form, whose system this is.
-pub record LinesParseTo (lines : List Line) (read : PlainModel) : Type 0 where
+-- The tokens of lines, cut after each semicolon, are spelled by the statements of a model of plain form.
+pub record LinesSpell (lines : List Line) (model : Model) : Type 0 where
   pub placed : List Placed
   pub tokens : AreTokens lines placed
+  pub spans : List Span
+  pub cut : statements_of placed ≡ Ok spans
+  pub spelled : Spell placed spans model
+  pub plain : IsPlain model
+
+-- The first fault of lines, with its line: a byte that begins no piece; else tokens that no semicolon ends; else a statement that
+-- breaks plain form.
+pub data LinesBreak (lines : List Line) : Kind → ℕ → Type 0 where
+  stuck : (fault : Fault) → IsFirstStuck lines fault → LinesBreak lines Syntax fault.place.line
+  left_open : (placed : List Placed) (fault : Fault) → AreTokens lines placed → statements_of placed ≡ Err fault → LinesBreak lines OpenStatement fault.place.line
+  broken : (placed : List Placed) (spans : List Span) (place : Place) → AreTokens lines placed → statements_of placed ≡ Ok spans →
+      IsBroken placed spans place → LinesBreak lines Syntax place.line
+
+-- The lines spell a model, whose system this is.
+pub record LinesParseTo (lines : List Line) (read : PlainModel) : Type 0 where
   pub model : Model
-  pub spelled_by : Spells placed model
+  pub spell : LinesSpell lines model
   pub says : Says model read
 
--- The lines have no tokens that spell a model of plain form.
-abbrev pub LinesAreOutside : List Line → Type 0
-LinesAreOutside lines = (placed : List Placed) (model : Model) → AreTokens lines placed → Spells placed model → ⊥
+-- The lines were read as a model, or they have a first fault, or memory was refused.
+abbrev pub LinesAnswer : List Line → Result PlainModel ReadStop → Type 0
+LinesAnswer lines (Ok read) = LinesParseTo lines read
+LinesAnswer lines (Err (reading.Refused kind line)) = LinesBreak lines kind line
+LinesAnswer lines (Err reading.Memory) = Unit {0}

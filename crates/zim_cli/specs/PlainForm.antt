@@ -6,9 +6,10 @@ use Rattle.zim_fault.specs.declared.signs.Sign.{Sign}
 use Rattle.zim_fault.specs.declared.signs.Sign.TheVariants.{SSemicolon, SColon, SLessEqual, SGreaterEqual, SEqual, SPlus, SMinus, SStar}
 use Rattle.zim_fault.specs.declared.tokens.Token.{Token}
 use Rattle.zim_fault.specs.declared.tokens.Token.TheVariants as token
-use Rattle.zim_fault.specs.declared.words.Word.TheVariants.{WVar, WMinimize, WSubto}
-use Rattle.zim_lp.specs.declared.plain.Sense.{Sense}
-use Rattle.zim_lp.specs.declared.plain.Sense.TheVariants.{AtMost, AtLeast, Equal}
+use Rattle.zim_fault.specs.declared.words.Word.{Word}
+use Rattle.zim_fault.specs.declared.words.Word.TheVariants.{WVar, WMinimize, WMaximize, WSubto}
+use Rattle.zim_rows.specs.declared.rows.Sense.{Sense}
+use Rattle.zim_rows.specs.declared.rows.Sense.TheVariants.{AtMost, AtLeast, Equal}
 
 -- A name or a run of digits, byte by byte.
 abbrev pub Text : Type 0
@@ -25,10 +26,11 @@ pub record Terms : Type 0 where
   pub first : Item
   pub others : List Item
 
--- `var name;`, `minimize name: list;` or `subto name: list relation right;`, the right side having a sign and digits.
+-- `var name;`, `minimize name: list;` or `maximize name: list;`, or `subto name: list relation right;`, the right side having
+-- a sign and digits.
 pub data Statement : Type 0 where
   Variable : (name : Text) → Statement
-  Objective : (name : Text) (terms : Terms) → Statement
+  Objective : (maximize : Bool) (name : Text) (terms : Terms) → Statement
   Constraint : (name : Text) (terms : Terms) (sense : Sense) (negative : Bool) (digits : Text) → Statement
 
 -- A model: its statements, in order.
@@ -64,11 +66,15 @@ sign_of_sense AtMost = SLessEqual
 sign_of_sense AtLeast = SGreaterEqual
 sign_of_sense Equal = SEqual
 
+-- The word that says whether to maximise.
+abbrev pub word_of_aim : Bool → Word
+word_of_aim maximize = if maximize then WMaximize else WMinimize
+
 -- A statement, up to its semicolon.
 abbrev pub spelled_statement : Statement → List Token
 spelled_statement (Variable name) = token.Word WVar ∷ token.Name name ∷ token.Sign SSemicolon ∷ []
-spelled_statement (Objective name terms) =
-    token.Word WMinimize ∷ token.Name name ∷ token.Sign SColon ∷ (spelled_terms terms ++ token.Sign SSemicolon ∷ [])
+spelled_statement (Objective maximize name terms) =
+    token.Word (word_of_aim maximize) ∷ token.Name name ∷ token.Sign SColon ∷ (spelled_terms terms ++ token.Sign SSemicolon ∷ [])
 spelled_statement (Constraint name terms sense negative digits) =
     token.Word WSubto ∷ token.Name name ∷ token.Sign SColon ∷ (spelled_terms terms ++ (token.Sign (sign_of_sense sense) ∷ (spelled_minus negative ++ token.Number digits ∷ token.Sign SSemicolon ∷ [])))
 
@@ -103,32 +109,32 @@ pub record IsProper (declared : List Text) (terms : Terms) : Type 0 where
 abbrev pub variables : Model → List Text
 variables [] = []
 variables (Variable name ∷ rest) = name ∷ variables rest
-variables (Objective name terms ∷ rest) = variables rest
+variables (Objective maximize name terms ∷ rest) = variables rest
 variables (Constraint name terms sense negative digits ∷ rest) = variables rest
 
 -- The name that a statement gives.
 abbrev pub name_of : Statement → Text
 name_of (Variable name) = name
-name_of (Objective name terms) = name
+name_of (Objective maximize name terms) = name
 name_of (Constraint name terms sense negative digits) = name
 
--- Whether the statement is a `minimize`.
+-- Whether the statement is a `minimize` or a `maximize`.
 abbrev pub is_objective : Statement → Bool
 is_objective (Variable name) = false
-is_objective (Objective name terms) = true
+is_objective (Objective maximize name terms) = true
 is_objective (Constraint name terms sense negative digits) = false
 
 -- Whether the statement is a `subto`.
 abbrev pub is_constraint : Statement → Bool
 is_constraint (Variable name) = false
-is_constraint (Objective name terms) = false
+is_constraint (Objective maximize name terms) = false
 is_constraint (Constraint name terms sense negative digits) = true
 
 -- The parts of a statement suit those before it: lists have only variables that are declared before, there is one
 -- objective, and there are at most 1,000,000 variables and 1,000,000 constraints.
 abbrev pub HasProperParts : (before : Model) → Statement → Type 0
 HasProperParts before (Variable name) = length (variables before) < 1000000
-HasProperParts before (Objective name terms) = IsProper (variables before) terms × AllByRecursion (λ (other : Statement). is_objective other ≡ false) before
+HasProperParts before (Objective maximize name terms) = IsProper (variables before) terms × AllByRecursion (λ (other : Statement). is_objective other ≡ false) before
 HasProperParts before (Constraint name terms sense negative digits) =
     IsProper (variables before) terms × (IsRun digits × (length (filter is_constraint before) < 1000000))
 
@@ -145,7 +151,3 @@ FollowEachOther before (statement ∷ rest) = MayFollow before statement × Foll
 -- A model of plain form: each statement may follow those before it.
 abbrev pub IsPlain : Model → Type 0
 IsPlain model = FollowEachOther [] model
-
--- The tokens are those of a model of plain form.
-abbrev pub IsPlainForm : List Token → Type 0
-IsPlainForm tokens = (model : Model) × (spelled model ≡ tokens) × IsPlain model

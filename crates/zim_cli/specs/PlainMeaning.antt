@@ -1,9 +1,9 @@
 -- What a model of plain form says: when it holds at an assignment, and its objective there.
-use Rattle.std.specs.Prelude.{ℕ, ◌≡◌, ℤ, pos, nat_eq, neg_ℤ, Bool, if◌then◌else◌, List, [], ◌∷◌, map, length, Option, Some, None, ⊤}
+use Rattle.std.specs.Prelude.{ℕ, ◌≡◌, ℤ, pos, nat_eq, neg_ℤ, Bool, false, if◌then◌else◌, List, [], ◌∷◌, map, length, Option, Some, None, ⊤}
 use Rattle.std.specs.Cmp.Lexicographic.{pointwise}
 use Rattle.std.specs.List.{AllByRecursion}
 use Rattle.std.specs.Str.Parse.{digits_value}
-use Rattle.zim_lp.specs.Plain.{Compares}
+use Rattle.zim_rows.specs.Points.{Compares}
 use Rattle.zim_rational.specs.Rational.{Rational, whole, zero, times, total, IsAtMost}
 use Rattle.zim_cli.specs.PlainForm.{Text, Item, Terms, Statement, Variable, Objective, Constraint, Model, items_of, variables}
 
@@ -41,7 +41,7 @@ number_of_terms names values terms = total (map (λ (item : Item). times (whole 
 -- A statement holds; only a `subto` asks for something.
 abbrev pub Holds : List Text → Assignment → Statement → Type 0
 Holds names values (Variable name) = ⊤
-Holds names values (Objective name terms) = ⊤
+Holds names values (Objective maximize name terms) = ⊤
 Holds names values (Constraint name terms sense negative digits) = Compares sense (number_of_terms names values terms) (whole (signed negative (digits_value 10 digits)))
 
 -- Each variable is from 0 up, and every statement holds.
@@ -53,9 +53,16 @@ pub record Sat (model : Model) (values : Assignment) : Type 0 where
 abbrev pub objective_among : List Text → Assignment → Model → Rational
 objective_among names values [] = zero
 objective_among names values (Variable name ∷ rest) = objective_among names values rest
-objective_among names values (Objective name terms ∷ rest) = number_of_terms names values terms
+objective_among names values (Objective maximize name terms ∷ rest) = number_of_terms names values terms
 objective_among names values (Constraint name terms sense negative digits ∷ rest) = objective_among names values rest
 
 -- The model's objective at an assignment.
 abbrev pub Obj : Model → Assignment → Rational
 Obj model values = objective_among (variables model) values model
+
+-- Whether the first objective among statements is to be maximised; without one it is not.
+abbrev pub maximises : Model → Bool
+maximises [] = false
+maximises (Variable name ∷ rest) = maximises rest
+maximises (Objective maximize name terms ∷ rest) = maximize
+maximises (Constraint name terms sense negative digits ∷ rest) = maximises rest

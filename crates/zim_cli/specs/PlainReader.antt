@@ -1,19 +1,19 @@
 -- Reading statements of plain form from left to right, and what a reading function has to do with it.
 use Rattle.std.specs.Prelude.{◌≡◌, Bool, true, false, List, [], ◌∷◌, map, Option, Some, None, option_map, Result, Ok, Err}
 use Rattle.zim_fault.specs.declared.signs.Sign.TheVariants.{SSemicolon, SColon, SLessEqual, SGreaterEqual, SEqual, SPlus, SMinus, SStar}
-use Rattle.zim_fault.specs.declared.words.Word.TheVariants.{WVar, WMinimize, WSubto}
+use Rattle.zim_fault.specs.declared.words.Word.TheVariants.{WVar, WMinimize, WMaximize, WSubto}
 use Rattle.zim_fault.specs.declared.tokens.Token.{Token}
 use Rattle.zim_fault.specs.declared.tokens.Token.TheVariants as token
 use Rattle.zim_fault.specs.declared.tokens.Placed.{Placed}
-use Rattle.zim_lp.specs.declared.plain.Sense.{Sense}
-use Rattle.zim_lp.specs.declared.plain.Sense.TheVariants.{AtMost, AtLeast, Equal}
+use Rattle.zim_rows.specs.declared.rows.Sense.{Sense}
+use Rattle.zim_rows.specs.declared.rows.Sense.TheVariants.{AtMost, AtLeast, Equal}
 use Rattle.zim_cli.specs.declared.statement as code
 use Rattle.zim_cli.specs.declared.statement.Statement.TheVariants as said
 use Rattle.zim_cli.specs.declared.stop.Stop.{Stop}
 use Rattle.zim_cli.specs.declared.stop.Stop.TheVariants.{OutOfMemory, Outside}
 use Rattle.zim_cli.specs.declared.stop.NotPlain.{NotPlain}
 use Rattle.zim_cli.specs.Many.{Step, End, Wrong, More, many}
-use Rattle.zim_cli.specs.PlainForm.{Text, Item, Terms, Statement, Variable, Objective, Constraint, Model}
+use Rattle.zim_cli.specs.PlainForm.{Text, Item, Terms, Statement, Variable, Objective, Constraint}
 
 -- ---- what the code's values stand for
 
@@ -32,7 +32,7 @@ terms_of t = record { first = item_of t.first; others = map item_of t.others.ite
 -- A statement of the code.
 abbrev pub statement_of : code.Statement.Statement → Statement
 statement_of (said.Variable name) = Variable name.now
-statement_of (said.Objective name terms) = Objective name.now (terms_of terms)
+statement_of (said.Objective maximize name terms) = Objective maximize name.now (terms_of terms)
 statement_of (said.Constraint name terms sense right) = Constraint name.now (terms_of terms) sense right.negative right.digits.now
 
 -- The function found what reading gives, seen by a view, or stopped where reading gives nothing.
@@ -52,8 +52,8 @@ Gives view (Err e) read = Stops e read
 
 -- ---- reading
 
--- A step after what was read, if something was.
 infixl 10 ◌>>=◌
+-- A step after what was read, if something was.
 abbrev pub ◌>>=◌ : {A B : Type 0} → Option A → (A → Option B) → Option B
 None >>= f = None
 (Some x) >>= f = f x
@@ -124,7 +124,7 @@ item_at negative tokens = do
   name ← name_at coefficient.1
   Some (record { negative = negative; coefficient = coefficient.0; name = name.0 }, name.1)
 
--- ---- lists, statements and models
+-- ---- lists and statements
 
 -- A step that asks for a part.
 abbrev pub wanted : {A : Type 0} → Option (A × List Token) → Step Token A
@@ -154,14 +154,14 @@ variable_at tokens = do
   rest ← semicolon_at name.1
   Some (Variable name.0, rest)
 
--- What follows `minimize`.
-unfoldable pub objective_at : List Token → Option (Statement × List Token)
-objective_at tokens = do
+-- What follows `minimize` or `maximize`.
+unfoldable pub objective_at : Bool → List Token → Option (Statement × List Token)
+objective_at maximize tokens = do
   name ← name_at tokens
   rest ← colon_at name.1
   terms ← terms_at rest
   rest ← semicolon_at terms.1
-  Some (Objective name.0 terms.0, rest)
+  Some (Objective maximize name.0 terms.0, rest)
 
 -- A right side: its sign and its digits.
 unfoldable pub right_at : List Token → Option ((Bool × Text) × List Token)
@@ -184,15 +184,7 @@ constraint_at tokens = do
 unfoldable pub statement_at : List Token → Option (Statement × List Token)
 statement_at [] = None
 statement_at (token.Word WVar ∷ rest) = variable_at rest
-statement_at (token.Word WMinimize ∷ rest) = objective_at rest
+statement_at (token.Word WMinimize ∷ rest) = objective_at false rest
+statement_at (token.Word WMaximize ∷ rest) = objective_at true rest
 statement_at (token.Word WSubto ∷ rest) = constraint_at rest
 statement_at (_ ∷ rest) = None
-
--- A further statement comes where a token does.
-unfoldable pub statement_step : List Token → Step Token Statement
-statement_step [] = End
-statement_step (first ∷ rest) = wanted (statement_at (first ∷ rest))
-
--- The model that tokens spell, if they spell one.
-unfoldable pub model_at : List Token → Option Model
-model_at tokens = option_map (λ found. found.0) (many statement_step tokens)

@@ -1,55 +1,53 @@
 -- What a run of the command does, by the way in which it ends.
-use Rattle.std.specs.Prelude.{◌≡◌, ℕ, List, [], ◌∷◌, ◌++◌, Option, None, Some, codes}
+use Rattle.std.specs.Prelude.{◌≡◌, ℕ, ◌+◌, List, [], ◌∷◌, length, Option, None, Some}
 use Rattle.zim_fault.specs.declared.kinds.Kind.{Kind}
-use Rattle.zim_gate.specs.Counts.{Rose}
+use Rattle.zim_gate.specs.Counts.{Rose, IsFrontOf}
 use Rattle.zim_gate.specs.Folder.{FolderState}
 use Rattle.zim_cli.specs.declared.ending.Ending.{Ending}
 use Rattle.zim_cli.specs.declared.ending.Ending.TheVariants as ending
 use Rattle.zim_cli.specs.declared.jobs.Job.{Job}
 use Rattle.zim_cli.specs.declared.jobs.Job.TheVariants.{Compile}
-use Rattle.zim_cli.specs.Compile.{WhereTold, IsUnread, at_first_line}
-use Rattle.zim_lp.specs.declared.plain.Plain.{Plain}
-use Rattle.zim_lp.specs.Text.{lp_text}
-use Rattle.zim_cli.specs.LpFile.{IsLpOf, IsSystemOf}
+use Rattle.zim_cli.specs.declared.outputs.Output.{Output}
+use Rattle.zim_cli.specs.declared.plain_form.PlainModel.{PlainModel}
+use Rattle.zim_cli.specs.PlainSystem.{Says}
+use Rattle.zim_cli.specs.Compile.{WhereTold, IsUnread, at_line}
+use Rattle.zim_cli.specs.FilesOf.{AreFilesOf}
+use Rattle.zim_cli.specs.Outputs.{Texts, texts_of, output_name, both_lengths, with_table, Makes, IsEmptyFrontOf, IsStoppedAt}
 use Rattle.zim_cli.specs.PlainForm.{Model}
+use Rattle.zim_cli.specs.WriteFile.{KeepsFiles}
 use Rattle.zim_cli.specs.Reading.{HasModel, IsRefusedFor}
-use Rattle.zim_cli.specs.WriteFile.{KeepsFiles, HoldsOnly, IsStoppedAt}
 
--- The name of the LP file of a base.
-abbrev pub lp_name : List ℕ → List ℕ
-lp_name base = base ++ codes ".lp"
-
--- A text is a model, the LP text of a system of this model is an LP file of it, and this is so of that LP text.
-pub record OfLpText (Is : List ℕ → Type 0) (text : List ℕ) : Type 0 where
+-- A text is a model, the texts of a system of this model are its files, and this is so of them.
+pub record OfTexts (Is : Texts → Type 0) (text : List ℕ) : Type 0 where
   pub model : Model
   pub read : HasModel text model
-  pub system : Plain
-  pub is_system : IsSystemOf model system
-  pub is_lp : IsLpOf model (lp_text system)
-  pub is : Is (lp_text system)
+  pub system : PlainModel
+  pub is_system : Says model system
+  pub say : AreFilesOf model (texts_of system)
+  pub is : Is (texts_of system)
 
--- A run that stopped at the LP file: no file was changed, or the file holds a first part of its text.
-abbrev pub IsStopped : FolderState → FolderState → List ℕ → List ℕ → Type 0
-IsStopped before now model base = WhereTold before.held model (OfLpText (IsStoppedAt before now (lp_name base)))
+-- A run that stopped at an output, as before that step or with a part of what it puts, `IsPart` saying which parts may be.
+abbrev pub IsStopped : (List ℕ → List ℕ → Type 0) → FolderState → FolderState → List ℕ → List ℕ → Output → Type 0
+IsStopped IsPart before now model base output = WhereTold before.held model (OfTexts (λ texts. IsStoppedAt IsPart before now base texts output))
 
 -- How a run ended, for the job that its words are and what was known of the folder before and is known now.
 pub data Ended (job : Option Job) (before now : FolderState) : Ending → Type 0 where
   -- the words are no job, and no call of the folder was made
   usage : job ≡ None → now ≡ before → Ended job before now ending.Usage
-  -- the model's text is no model, for a kind of fault that is told at line 1
-  refused : (model base : List ℕ) (kind : Kind) → job ≡ Some (Compile model base) →
-      WhereTold before.held model (λ text. IsRefusedFor text kind) → KeepsFiles before now →
-      Ended job before now (ending.Refused (at_first_line kind) (model ∷ []))
+  -- the model's text is no model; the fault is its first one
+  refused : (model base : List ℕ) (kind : Kind) (line : ℕ) → job ≡ Some (Compile model base) →
+      WhereTold before.held model (λ text. IsRefusedFor text kind line) → KeepsFiles before now →
+      Ended job before now (ending.Refused (at_line kind line) (model ∷ []))
   -- the model could not be read
   unread : (model base : List ℕ) → job ≡ Some (Compile model base) → IsUnread before now model → KeepsFiles before now →
       Ended job before now (ending.Unread model)
-  -- a call of writing failed; the job's text is a model
-  unwritten : (model base : List ℕ) → job ≡ Some (Compile model base) → Rose before.write_faults now.write_faults →
-      IsStopped before now model base → Ended job before now (ending.Unwritten (lp_name base))
-  -- memory was refused, before the file was begun or by its begin, which may have emptied it
+  -- a call of writing failed at an output; the job's text is a model
+  unwritten : (model base : List ℕ) (output : Output) → job ≡ Some (Compile model base) → Rose before.write_faults now.write_faults →
+      IsStopped IsFrontOf before now model base output → Ended job before now (ending.Unwritten (output_name base output))
+  -- memory was refused, before a file was begun or by the begin of an output, of which no byte was put
   no_memory : KeepsFiles before now → Ended job before now ending.Memory
-  no_memory_to_begin : (model base : List ℕ) → job ≡ Some (Compile model base) → HoldsOnly before now (lp_name base) [] →
+  no_memory_to_begin : (model base : List ℕ) (output : Output) → job ≡ Some (Compile model base) → IsStopped IsEmptyFrontOf before now model base output →
       Ended job before now ending.Memory
-  -- the LP file is written whole, and every other file is as before
+  -- the three files are written whole, every other file is as before, and nothing else was put
   done : (model base : List ℕ) → job ≡ Some (Compile model base) →
-      WhereTold before.held model (OfLpText (HoldsOnly before now (lp_name base))) → Ended job before now ending.Done
+      WhereTold before.held model (OfTexts (λ texts. Makes before now (with_table base texts texts.table) (both_lengths texts + length texts.table))) → Ended job before now ending.Done

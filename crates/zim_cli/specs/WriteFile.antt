@@ -1,5 +1,5 @@
 -- What it does to a folder to begin a file, to put a text to it and to end it.
-use Rattle.std.specs.Prelude.{◌≡◌, ℕ, ◌⊎◌, List, [], length, option_map, Result, OnOk, OnErr, IsErrOf, ⊤}
+use Rattle.std.specs.Prelude.{◌≡◌, ℕ, ◌≤◌, ◌⊎◌, List, [], length, option_map, Result, OnOk, OnErr, IsErrOf, ⊤}
 use Rattle.std.specs.FinMap as map
 use Rattle.zim_gate.specs.Counts.{Rose, count_on, IsFrontOf}
 use Rattle.zim_gate.specs.Folder.{FolderState, Files}
@@ -18,13 +18,14 @@ pub record HoldsOnly (before now : FolderState) (name bytes : List ℕ) : Type 0
   pub wrote : now.wrote ≡ option_map (count_on (length bytes)) before.wrote
 
 -- No file was changed, or the named file holds a first part of the text.
-abbrev pub IsStoppedAt : FolderState → FolderState → List ℕ → List ℕ → Type 0
-IsStoppedAt before now name text =
+abbrev pub IsPartOf : FolderState → FolderState → List ℕ → List ℕ → Type 0
+IsPartOf before now name text =
     KeepsFiles before now ⊎ ((front : List ℕ) × IsFrontOf front text × HoldsOnly before now name front)
 
--- A file was written whole, or the work stopped on the way; for want of memory at its begin.
+-- A file was written whole, or the work stopped on the way; for want of memory it stopped before a byte was put.
 pub record WritesFile (before now : FolderState) (name text : List ℕ) (result : Result ⊤ BeginStop) : Type 0 where
   pub ok : OnOk result (HoldsOnly before now name text)
-  pub err : OnErr result (IsStoppedAt before now name text)
+  pub err : OnErr result (IsPartOf before now name text)
   pub failed : IsErrOf result stop.Failed → Rose before.write_faults now.write_faults
   pub refused : IsErrOf result stop.Memory → KeepsFiles before now ⊎ HoldsOnly before now name []
+  pub write_faults : before.write_faults ≤ now.write_faults

@@ -1,9 +1,10 @@
 //! The system of a model, built statement by statement.
 
-ghost use Rattle.std.specs.Prelude.{◌≡◌, ◌≤◌, nat_eq, ◌||◌, [], length, OnOk};
+ghost use Rattle.std.specs.Prelude.{◌≡◌, ◌≤◌, nat_eq, ◌||◌, [], length, OnOk, IfOk, map};
 ghost use Rattle.std.specs.Cmp.Lexicographic.{pointwise};
 ghost use Rattle.std.specs.List.{list_any};
-ghost use Rattle.zim_cli.specs.PlainBuild.{built, Stands, Adds};
+ghost use Rattle.zim_fault.specs.declared.faults.Place.{Place};
+ghost use Rattle.zim_cli.specs.PlainBuild.{built, Stands, Adds, AddsAt, IsSmall};
 ghost use Rattle.zim_cli.specs.PlainForm.{Variable, Objective, Constraint};
 ghost use Rattle.zim_cli.specs.PlainReader.{statement_of, terms_of};
 
@@ -12,11 +13,8 @@ use crate::statement::{Right, Statement, Terms};
 use crate::stop::Stop;
 use indexmap::IndexSet;
 use std::alloc::Global;
-use zim_fault::{Bytes, Duplicate, Sequence};
-use zim_lp::{PlainRow, Sense};
-
-/// How many variables a model of plain form has at most, and how many constraints.
-const MOST: usize = 1_000_000;
+use zim_fault::{Bytes, Duplicate, Place, Sequence};
+use zim_rows::{RowFrom, Sense, System};
 
 /// What was built from the statements so far. After an error it is of no further use.
 #[derive(Drop)]
@@ -25,23 +23,26 @@ pub struct Builder {
     pub variables: IndexSet<Bytes>,
     /// The names of the objective and of the constraints.
     pub others: IndexSet<Bytes>,
-    /// The terms of the objective, once there is one.
-    pub objective: Option<Sequence<(u32, i64)>>,
-    /// The rows of the constraints, in order.
-    pub lines: Sequence<PlainRow>,
+    /// The names of all statements, in order.
+    pub statements: Sequence<Bytes>,
+    /// The position, from 0, of the objective among the statements, once there is one.
+    pub objective: Option<u32>,
+    /// A column for each variable, a row for each constraint, and the objective.
+    pub system: System,
 }
 
 impl Builder {
     /// What is built from no statement.
     pub fn new(alloc: Global) -> Builder
         ensures stands { Stands [] (built result) }
-        ensures few { length result.variables.keys ≤ 1000000 }
+        ensures small { IsSmall (built result) }
     {
         Builder {
             variables: IndexSet::new(alloc),
             others: IndexSet::new(alloc),
+            statements: Sequence::new(alloc),
             objective: None,
-            lines: Sequence::new(alloc),
+            system: System::new(alloc),
         }
     }
 
@@ -54,24 +55,33 @@ impl Builder {
 
     /// Adds `var name;`.
     fn add_variable(&mut self, name: &Bytes) -> Result<(), Stop>
+        requires { IsSmall (built self.old) }
         ensures adds { Adds (built self.old) (Variable name.now) (built self.new) result }
-        ensures few { OnOk result (length self.new.variables.keys ≤ 1000000) }
+        ensures at { (place : Place) → OnOk result (AddsAt place (built self.old).program (built self.new).program) }
+        ensures small { OnOk result (IsSmall (built self.new)) }
     {
-        if self.variables.len() >= MOST {
-            return Err(Stop::Outside);
-        }
         if self.is_taken(name) {
             return Err(Stop::Outside);
         }
+        self.system.new_column()?;
         self.variables.insert(name.copy()?)?;
+        self.statements.push(name.copy()?)?;
         Ok(())
     }
 
-    /// Adds `minimize name: terms;`.
-    fn add_objective(&mut self, alloc: Global, name: &Bytes, terms: &Terms<'_>) -> Result<(), Stop>
-        requires { length self.old.variables.keys ≤ 1000000 }
-        ensures adds { Adds (built self.old) (Objective name.now (terms_of terms.now)) (built self.new) result }
-        ensures few { OnOk result (length self.new.variables.keys ≤ 1000000) }
+    /// Adds `minimize name: terms;`, or `maximize name: terms;`, which stands at a place.
+    fn add_objective(
+        &mut self,
+        alloc: Global,
+        place: Place,
+        maximize: bool,
+        name: &Bytes,
+        terms: &Terms<'_>,
+    ) -> Result<(), Stop>
+        requires { IsSmall (built self.old) }
+        ensures adds { Adds (built self.old) (Objective maximize name.now (terms_of terms.now)) (built self.new) result }
+        ensures at { OnOk result (AddsAt place (built self.old).program (built self.new).program) }
+        ensures small { OnOk result (IsSmall (built self.new)) }
     {
         if self.objective.is_some() {
             return Err(Stop::Outside);
@@ -81,51 +91,62 @@ impl Builder {
         }
         let row = rows::row(alloc, &self.variables, terms)?;
         self.others.insert(name.copy()?)?;
-        self.objective = Some(row);
+        self.objective = Some(self.statements.len() as u32);
+        self.statements.push(name.copy()?)?;
+        self.system.set_objective(maximize, place, row);
         Ok(())
     }
 
-    /// Adds `subto name: terms sense right;`.
+    /// Adds `subto name: terms sense right;`, which stands at a place.
     fn add_constraint(
         &mut self,
         alloc: Global,
+        place: Place,
         name: &Bytes,
         terms: &Terms<'_>,
         sense: Sense,
         right: Right<'_>,
     ) -> Result<(), Stop>
-        requires { length self.old.variables.keys ≤ 1000000 }
+        requires { IsSmall (built self.old) }
         ensures adds { Adds (built self.old) (Constraint name.now (terms_of terms.now) sense right.entry.negative right.entry.digits.now) (built self.new) result }
-        ensures few { OnOk result (length self.new.variables.keys ≤ 1000000) }
+        ensures at { OnOk result (AddsAt place (built self.old).program (built self.new).program) }
+        ensures small { OnOk result (IsSmall (built self.new)) }
     {
-        if self.lines.len() >= MOST {
-            return Err(Stop::Outside);
-        }
         if self.is_taken(name) {
             return Err(Stop::Outside);
         }
         let number = rows::number(right.digits)?;
         let row = rows::row(alloc, &self.variables, terms)?;
         self.others.insert(name.copy()?)?;
-        self.lines.push(PlainRow {
-            terms: row,
-            sense,
-            right: rows::signed(right.negative, number),
-        })?;
+        let from = RowFrom {
+            statement: self.statements.len() as u32,
+            place,
+        };
+        self.statements.push(name.copy()?)?;
+        let right = rows::signed(right.negative, number);
+        self.system.add_row(from, row.as_slice(), sense, right)?;
         Ok(())
     }
 
-    /// Adds a statement. `Outside` comes exactly where it may not follow those before it.
-    pub fn add(&mut self, alloc: Global, statement: &Statement<'_>) -> Result<(), Stop>
-        requires { length self.old.variables.keys ≤ 1000000 }
+    /// Adds a statement that stands at a place. `Outside` comes exactly where it may not follow those before it.
+    pub fn add(
+        &mut self,
+        alloc: Global,
+        place: Place,
+        statement: &Statement<'_>,
+    ) -> Result<(), Stop>
+        requires { IsSmall (built self.old) }
         ensures adds { Adds (built self.old) (statement_of statement.now) (built self.new) result }
-        ensures few { OnOk result (length self.new.variables.keys ≤ 1000000) }
+        ensures at { OnOk result (AddsAt place (built self.old).program (built self.new).program) }
+        ensures small { OnOk result (IsSmall (built self.new)) }
     {
         match statement {
             Statement::Variable(name) => self.add_variable(name),
-            Statement::Objective(name, terms) => self.add_objective(alloc, name, terms),
+            Statement::Objective(maximize, name, terms) => {
+                self.add_objective(alloc, place, *maximize, name, terms)
+            }
             Statement::Constraint(name, terms, sense, right) => {
-                self.add_constraint(alloc, name, terms, *sense, *right)
+                self.add_constraint(alloc, place, name, terms, *sense, *right)
             }
         }
     }

@@ -1,47 +1,48 @@
-ghost use Rattle.std.specs.Prelude.{◌≡◌, ◌++◌, Option, Some, IfOk, codes, map, string_bytes};
+ghost use Rattle.std.specs.Prelude.{◌≡◌, Some, map, string_bytes};
 ghost use Rattle.zim_cli.specs.declared.jobs.Job.TheVariants.{Compile};
-ghost use Rattle.zim_cli.specs.Ending.{IsReportable};
-ghost use Rattle.zim_cli.specs.Headline.{Runs, MustBeUsage, MustBeDone, MustBeRefused, MustBeReadFault};
+ghost use Rattle.zim_cli.specs.Ending.{IsReportable, ending_of_writing};
+ghost use Rattle.zim_cli.specs.Headline.{Runs, MustBeUsage, MustBeDone, MustBeRefused, MustBeReadFault, EndedTableIsWhole};
 ghost use Rattle.zim_cli.specs.Job.{job_of};
-ghost use Rattle.zim_cli.specs.Run.{Ended, lp_name};
+ghost use Rattle.zim_cli.specs.Run.{Ended};
 
 use crate::compiling::compile;
 use crate::ending::{Ending, report};
 use crate::jobs::Job;
+use crate::outputs::{Output, OutputNames, OutputStop, names_of, write_files};
 use crate::status::Status;
 use crate::words::job;
-use crate::write_file::write_lp_file;
 use std::alloc::Global;
-use zim_fault::{Bytes, Memory};
-use zim_gate::{BeginStop, Folder, Sink};
+use zim_fault::Memory;
+use zim_gate::{Folder, Sink};
 
-/// The name of the LP file of a base.
-fn name_of_lp(alloc: Global, base: &[u8]) -> Result<Bytes, Memory>
-    ensures { IfOk result (λ name. name ≡ lp_name base.now) }
+/// The ending of a run whose files were written, or which stopped at one of them.
+fn ending_of(names: OutputNames, written: Result<(), OutputStop>) -> Ending
+    ensures { result ≡ ending_of_writing names written }
 {
-    let mut name = Bytes::from_slice(alloc, base)?;
-    name.extend_from_slice(b".lp")?;
-    Ok(name)
+    match written {
+        Ok(()) => Ending::Done,
+        Err(OutputStop::Unwritten(Output::Lp)) => Ending::Unwritten(names.lp),
+        Err(OutputStop::Unwritten(Output::Mps)) => Ending::Unwritten(names.mps),
+        Err(OutputStop::Unwritten(Output::Table)) => Ending::Unwritten(names.table),
+        Err(OutputStop::Memory) => Ending::Memory,
+    }
 }
 
-/// Compiles a model and writes its LP file.
+/// Compiles a model and writes its files.
 fn perform_compile<F: Folder>(alloc: Global, folder: &mut F, model: &[u8], base: &[u8]) -> Ending
     ensures reportable { IsReportable result }
     ensures ended { Ended (Some (Compile model.now base.now)) (F.state folder.old) (F.state folder.new) result }
 {
-    let system = match compile(alloc, folder, model) {
-        Ok(system) => system,
+    let read = match compile(alloc, folder, model) {
+        Ok(read) => read,
         Err(ending) => return ending,
     };
-    let name = match name_of_lp(alloc, base) {
-        Ok(name) => name,
+    let names = match names_of(alloc, base) {
+        Ok(names) => names,
         Err(Memory) => return Ending::Memory,
     };
-    match write_lp_file(folder, name.as_slice(), &system.plain) {
-        Ok(()) => Ending::Done,
-        Err(BeginStop::Failed) => Ending::Unwritten(name),
-        Err(BeginStop::Memory) => Ending::Memory,
-    }
+    let written = write_files(folder, &names, &read);
+    ending_of(names, written)
 }
 
 /// Does what the words ask for.
@@ -58,7 +59,8 @@ fn perform<F: Folder>(alloc: Global, words: &[String], folder: &mut F) -> Ending
     }
 }
 
-/// Runs the command: reads the words and the model, compiles it, and writes `BASE.lp`.
+/// Runs the command: reads the words and the model, compiles it, and writes `BASE.lp`, `BASE.mps` and
+/// `BASE.tbl`. The table is emptied first and written last, so a whole table stands beside whole files.
 ///
 /// The words are those of the command without the program's name. Files are read from the folder and
 /// written to it; the one line of a run that isn't done is put to `err`, and nothing to `out`. A sink
@@ -77,6 +79,8 @@ pub fn run<F: Folder, O: Sink, E: Sink>(
     ensures done { MustBeDone (job_of (map string_bytes words.now)) (F.state folder.old) (F.state folder.new) result }
     ensures refused { MustBeRefused (job_of (map string_bytes words.now)) (F.state folder.old) (F.state folder.new) result }
     ensures read_fault { MustBeReadFault (job_of (map string_bytes words.now)) (F.state folder.old) (F.state folder.new) result }
+    // Beside a table of this run that ends in its last line, the other files are whole.
+    ensures ended_table { EndedTableIsWhole (job_of (map string_bytes words.now)) (F.state folder.old) (F.state folder.new) }
     // Nothing is put to `out`.
     ensures out { O.state out.new ≡ O.state out.old }
 {

@@ -1,7 +1,7 @@
 //! The command: which words are a job, and what a run does with it.
 //!
 //! [`run`] is the call that the program makes, and its contract is the theorem about the program:
-//! how a run ends, what it leaves in the folder, and what the written file says of the model
+//! how a run ends, what it leaves in the folder, and what the written files say of the model
 //! (`specs/Headline.antt`, which leads to the rest). A model is text in plain form, whose grammar is
 //! `specs/PlainForm.antt` and whose meaning is `specs/PlainMeaning.antt`; its parser is private.
 #![tactic(auto)]
@@ -12,6 +12,7 @@ mod compiling;
 mod ending;
 mod jobs;
 mod laws;
+mod outputs;
 mod plain_form;
 mod reader;
 mod rows;
@@ -24,6 +25,8 @@ mod write_file;
 pub use command::run;
 pub use ending::Ending;
 pub use jobs::Job;
-pub use laws::a_text_has_one_model;
+pub use laws::{
+    a_model_has_no_fault, a_model_has_one_of_each_text, a_text_has_one_fault, a_text_has_one_model,
+};
 pub use status::{Status, exit_number};
 pub use words::job;

@@ -9,7 +9,7 @@ use crate::statement::{Item, Right, Statement, Terms};
 use crate::stop::{NotPlain, Stop};
 use std::alloc::Global;
 use zim_fault::{Bytes, Placed, Sign, Token, Word};
-use zim_lp::Sense;
+use zim_rows::Sense;
 
 /// A name.
 #[tactic(auto, unfolding(crate::specs::PlainReader::name_at))]
@@ -250,16 +250,20 @@ fn variable(tokens: &[Placed]) -> Result<(Statement<'_>, &[Placed]), NotPlain>
     Ok((Statement::Variable(name), rest))
 }
 
-/// What follows `minimize`.
+/// What follows `minimize` or `maximize`.
 #[tactic(auto, unfolding(crate::specs::PlainReader::objective_at))]
-fn objective(alloc: Global, tokens: &[Placed]) -> Result<(Statement<'_>, &[Placed]), Stop>
-    ensures { Gives (λ p. (statement_of p.0, tokens_of p.1.now)) result (spec.objective_at (tokens_of tokens.now)) }
+fn objective(
+    alloc: Global,
+    maximize: bool,
+    tokens: &[Placed],
+) -> Result<(Statement<'_>, &[Placed]), Stop>
+    ensures { Gives (λ p. (statement_of p.0, tokens_of p.1.now)) result (spec.objective_at maximize (tokens_of tokens.now)) }
 {
     let (name, rest) = name(tokens)?;
     let rest = colon(rest)?;
     let (terms, rest) = terms(alloc, rest)?;
     let rest = semicolon(rest)?;
-    Ok((Statement::Objective(name, terms), rest))
+    Ok((Statement::Objective(maximize, name, terms), rest))
 }
 
 /// What follows `subto`.
@@ -276,9 +280,9 @@ fn constraint(alloc: Global, tokens: &[Placed]) -> Result<(Statement<'_>, &[Plac
     Ok((Statement::Constraint(name, terms, sense, right), rest))
 }
 
-/// A statement.
+/// A statement, and the tokens behind it.
 #[tactic(auto, unfolding(crate::specs::PlainReader::statement_at))]
-fn statement(alloc: Global, tokens: &[Placed]) -> Result<(Statement<'_>, &[Placed]), Stop>
+pub fn statement(alloc: Global, tokens: &[Placed]) -> Result<(Statement<'_>, &[Placed]), Stop>
     ensures { Gives (λ p. (statement_of p.0, tokens_of p.1.now)) result (spec.statement_at (tokens_of tokens.now)) }
 {
     match tokens {
@@ -295,7 +299,14 @@ fn statement(alloc: Global, tokens: &[Placed]) -> Result<(Statement<'_>, &[Place
                 ..
             },
             rest @ ..,
-        ] => objective(alloc, rest),
+        ] => objective(alloc, false, rest),
+        [
+            Placed {
+                token: Token::Word(Word::WMaximize),
+                ..
+            },
+            rest @ ..,
+        ] => objective(alloc, true, rest),
         [
             Placed {
                 token: Token::Word(Word::WSubto),
@@ -305,18 +316,4 @@ fn statement(alloc: Global, tokens: &[Placed]) -> Result<(Statement<'_>, &[Place
         ] => constraint(alloc, rest),
         _ => Err(Stop::Outside),
     }
-}
-
-/// The statements that the tokens spell. `Outside` comes exactly where they spell none.
-pub fn statements(alloc: Global, tokens: &[Placed]) -> Result<Vec<Statement<'_>>, Stop>
-    ensures { Gives (λ v. map statement_of v.items) result (spec.model_at (tokens_of tokens.now)) }
-{
-    let mut statements = Vec::new(alloc);
-    let mut rest = tokens;
-    while !rest.is_empty() {
-        let (statement, after) = statement(alloc, rest)?;
-        statements.push(statement)?;
-        rest = after;
-    }
-    Ok(statements)
 }

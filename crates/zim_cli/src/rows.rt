@@ -4,7 +4,7 @@ ghost use Rattle.std.specs.Prelude.{◌≡◌, ◌<◌, ◌≤◌, ◌^◌, ◌�
 ghost use Rattle.std.specs.List.{AllAdjacentBelow};
 ghost use Rattle.std.specs.Result.{MatchResult, OkIff};
 ghost use Rattle.std.specs.Str.Parse.{digits_value};
-ghost use Rattle.zim_lp.specs.Plain.{PlainTerm};
+ghost use Rattle.zim_rows.specs.Terms.{Term};
 ghost use Rattle.zim_cli.specs.PlainForm.{IsRun, IsCoefficient, IsProper};
 ghost use Rattle.zim_cli.specs.PlainReader.{Finds, item_of, terms_of};
 ghost use Rattle.zim_cli.specs.PlainRows.{place_of, TermAnswer, TermsAnswer, RowAnswer};
@@ -15,7 +15,7 @@ use crate::statement::{Item, Terms};
 use crate::stop::{NotPlain, Stop};
 use indexmap::IndexSet;
 use std::alloc::Global;
-use zim_fault::{Bytes, Sequence};
+use zim_fault::Bytes;
 
 /// How many digits a number of plain form has at most.
 const MOST_DIGITS: usize = 18;
@@ -57,7 +57,7 @@ fn magnitude(coefficient: Option<&Bytes>) -> Result<u64, NotPlain>
 
 /// Whether each term's column is below that of the next.
 fn is_rising(terms: &[(u32, i64)]) -> bool
-    ensures { IsTrue result ↔ AllAdjacentBelow (λ (s t : PlainTerm). s.0 < t.0) terms.now (length terms.now) }
+    ensures { IsTrue result ↔ AllAdjacentBelow (λ (s t : Term). s.0 < t.0) terms.now (length terms.now) }
 {
     terms.is_sorted_by(|s, t| s.0 < t.0)
 }
@@ -115,14 +115,14 @@ pub fn row(
     alloc: Global,
     variables: &IndexSet<Bytes>,
     list: &Terms<'_>,
-) -> Result<Sequence<(u32, i64)>, Stop>
+) -> Result<Vec<(u32, i64)>, Stop>
     requires { length variables.now.keys ≤ 1000000 }
-    ensures { RowAnswer variables.now.keys (terms_of list.now) result }
+    ensures { RowAnswer (λ v. v.items) variables.now.keys (terms_of list.now) result }
 {
     let mut terms = terms(alloc, variables, list)?;
     terms.sort_by_key(|term| term.0)?;
     if is_rising(terms.as_slice()) {
-        Ok(Sequence::from_vec(terms))
+        Ok(terms)
     } else {
         Err(Stop::Outside)
     }

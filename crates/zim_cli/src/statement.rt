@@ -1,5 +1,5 @@
 use zim_fault::Bytes;
-use zim_lp::Sense;
+use zim_rows::Sense;
 
 /// An item of a list, whose texts stand in the tokens.
 #[derive(Clone, Copy, Debug)]
@@ -29,8 +29,8 @@ pub struct Right<'a> {
 pub enum Statement<'a> {
     /// `var name;`
     Variable(&'a Bytes),
-    /// `minimize name: terms;`
-    Objective(&'a Bytes, Terms<'a>),
+    /// `minimize name: terms;`, or `maximize name: terms;` where it is to be maximised
+    Objective(bool, &'a Bytes, Terms<'a>),
     /// `subto name: terms sense right;`
     Constraint(&'a Bytes, Terms<'a>, Sense, Right<'a>),
 }

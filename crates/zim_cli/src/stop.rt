@@ -1,8 +1,11 @@
 ghost use Rattle.std.specs.Prelude.{◌≡◌};
 ghost use Rattle.zim_cli.specs.declared.stop.Stop.TheVariants.{OutOfMemory, Outside};
+ghost use Rattle.zim_cli.specs.declared.stop.ParseStop.TheVariants as parsing;
+ghost use Rattle.zim_cli.specs.Stops.{stopped_at, stop_of_row};
 
 use std::alloc::{AllocError, AllocFailed};
-use zim_fault::Memory;
+use zim_fault::{Kind, Memory, Place};
+use zim_rows::RowFault;
 
 /// The tokens that come next are not what plain form has there.
 #[derive(Clone, Copy, Debug, PartialEq, Eq, Drop)]
@@ -46,5 +49,68 @@ impl<T: Drop> From<AllocFailed<T>> for Stop {
 
     fn from(_refused: AllocFailed<T>) -> Stop {
         Stop::OutOfMemory
+    }
+}
+
+/// Why tokens were not read as a model.
+#[derive(Clone, Copy, Debug, PartialEq, Eq, Drop)]
+pub enum ParseStop {
+    /// A statement breaks plain form; the place is that of its first token.
+    Broken(Place),
+    /// Memory was refused.
+    Memory,
+}
+
+/// Why lines were not read as a model.
+#[derive(Clone, Copy, Debug, PartialEq, Eq, Drop)]
+pub enum ReadStop {
+    /// The kind of the first fault, and the line at which it stands.
+    Refused(Kind, u32),
+    /// Memory was refused.
+    Memory,
+}
+
+/// Why the reading stopped in the statement whose first token stands at a place.
+pub fn stop_at(place: Place, stop: Stop) -> ParseStop
+    ensures { result ≡ stopped_at place stop }
+{
+    match stop {
+        Stop::Outside => ParseStop::Broken(place),
+        Stop::OutOfMemory => ParseStop::Memory,
+    }
+}
+
+impl From<Memory> for ParseStop {
+    ghost from_gives = { λ _ stop. stop ≡ parsing.Memory };
+
+    fn from(_refused: Memory) -> ParseStop {
+        ParseStop::Memory
+    }
+}
+
+impl From<AllocError> for ParseStop {
+    ghost from_gives = { λ _ stop. stop ≡ parsing.Memory };
+
+    fn from(_refused: AllocError) -> ParseStop {
+        ParseStop::Memory
+    }
+}
+
+impl<T: Drop> From<AllocFailed<T>> for ParseStop {
+    ghost from_gives = { λ _ stop. stop ≡ parsing.Memory };
+
+    fn from(_refused: AllocFailed<T>) -> ParseStop {
+        ParseStop::Memory
+    }
+}
+
+impl From<RowFault> for Stop {
+    ghost from_gives = { λ fault stop. stop ≡ stop_of_row fault };
+
+    fn from(fault: RowFault) -> Stop {
+        match fault {
+            RowFault::Memory => Stop::OutOfMemory,
+            RowFault::TooManyRows | RowFault::TooManyColumns => Stop::Outside,
+        }
     }
 }

@@ -1,10 +1,30 @@
-ghost use Rattle.std.specs.Prelude.{IsSome};
+ghost use Rattle.std.specs.Prelude.{[]};
 ghost use Rattle.zim_cli.specs.WriteFile.{WritesFile};
-ghost use Rattle.zim_lp.specs.Plain.{IsWritable};
+ghost use Rattle.zim_rows.specs.Finished.{program_of};
 ghost use Rattle.zim_lp.specs.Text.{lp_text};
+ghost use Rattle.zim_mps.specs.Text.{mps_text};
+ghost use Rattle.zim_table.specs.Text.{table_text};
+ghost use Rattle.zim_table.specs.Correct.{CanBeListed};
 
+use crate::plain_form::PlainModel;
 use zim_gate::{BeginStop, Folder};
-use zim_lp::{Plain, write};
+use zim_rows::Finished;
+
+/// Begins the named file and ends it, so that it is empty.
+///
+/// After a refusal the file is as before or empty. `Failed` comes only where the folder's count of write faults rose.
+pub fn clear_file<F: Folder>(folder: &mut F, name: &[u8]) -> Result<(), BeginStop>
+    ensures { WritesFile (F.state folder.old) (F.state folder.new) name.now [] result }
+{
+    match folder.begin(name) {
+        Ok(()) => {}
+        Err(stop) => return Err(stop),
+    }
+    match folder.end() {
+        Ok(()) => Ok(()),
+        Err(_) => Err(BeginStop::Failed),
+    }
+}
 
 /// Writes a system to the named file: begins it, puts its LP text and ends it.
 ///
@@ -13,16 +33,58 @@ use zim_lp::{Plain, write};
 pub fn write_lp_file<F: Folder>(
     folder: &mut F,
     name: &[u8],
-    system: &Plain,
+    system: &Finished,
 ) -> Result<(), BeginStop>
-    requires { IsWritable system.now }
-    ensures { WritesFile (F.state folder.old) (F.state folder.new) name.now (lp_text system.now) result }
+    ensures { WritesFile (F.state folder.old) (F.state folder.new) name.now (lp_text (program_of system.now)) result }
 {
     match folder.begin(name) {
         Ok(()) => {}
         Err(stop) => return Err(stop),
     }
-    if write(system, folder).is_err() {
+    if zim_lp::write(system, folder).is_err() {
+        return Err(BeginStop::Failed);
+    }
+    match folder.end() {
+        Ok(()) => Ok(()),
+        Err(_) => Err(BeginStop::Failed),
+    }
+}
+
+/// Writes a system to the named file in the MPS format. What is said of `write_lp_file` is so of it too.
+pub fn write_mps_file<F: Folder>(
+    folder: &mut F,
+    name: &[u8],
+    system: &Finished,
+) -> Result<(), BeginStop>
+    ensures { WritesFile (F.state folder.old) (F.state folder.new) name.now (mps_text (program_of system.now)) result }
+{
+    match folder.begin(name) {
+        Ok(()) => {}
+        Err(stop) => return Err(stop),
+    }
+    if zim_mps::write(system, folder).is_err() {
+        return Err(BeginStop::Failed);
+    }
+    match folder.end() {
+        Ok(()) => Ok(()),
+        Err(_) => Err(BeginStop::Failed),
+    }
+}
+
+/// Writes the table of a model to the named file. What is said of `write_lp_file` is so of it too.
+pub fn write_table_file<F: Folder>(
+    folder: &mut F,
+    name: &[u8],
+    read: &PlainModel,
+) -> Result<(), BeginStop>
+    requires { CanBeListed (program_of read.now.system) read.now.variables read.now.names }
+    ensures { WritesFile (F.state folder.old) (F.state folder.new) name.now (table_text (program_of read.now.system) read.now.variables read.now.names) result }
+{
+    match folder.begin(name) {
+        Ok(()) => {}
+        Err(stop) => return Err(stop),
+    }
+    if zim_table::write(&read.system, read.variables.as_slice(), &read.names, folder).is_err() {
         return Err(BeginStop::Failed);
     }
     match folder.end() {

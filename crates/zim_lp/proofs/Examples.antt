@@ -4,8 +4,9 @@ use Rattle.std.proofs.lemmas.Fmt.{decimal_digit}
 use Rattle.std.specs.Prelude.{codes, option_map, is_none}
 use Rattle.zim_rational.specs.Rational.{ratio, negate, zero}
 use Rattle.zim_instance.specs.Instance.{Instance}
-use Rattle.zim_lp.specs.declared.plain.Plain.{Plain}
-use Rattle.zim_lp.specs.declared.plain.Sense.TheVariants.{AtLeast, AtMost, Equal}
+use Rattle.zim_rows.specs.declared.rows.RowFrom.{RowFrom}
+use Rattle.zim_rows.specs.Program.{LinearProgram, no_target, empty_program}
+use Rattle.zim_rows.specs.declared.rows.Sense.TheVariants.{AtLeast, AtMost, Equal}
 use Rattle.zim_lp.specs.Numerals.{number_of_word}
 use Rattle.zim_lp.specs.FileText.{WrittenFile, file_text}
 use Rattle.zim_lp.specs.Text.{lp_text}
@@ -29,12 +30,16 @@ four_digit = decimal_digit 4 (lit< tt)
 five_digit : decimal 5 ≡ 53 ∷ []
 five_digit = decimal_digit 5 (lit< tt)
 
+-- where a row of these examples comes from
+from_somewhere : RowFrom
+from_somewhere = record { statement = 0; place = record { file = 0; line = 1 } }
+
 -- minimise 2 x + 3 y where x + y is at least 1
-two_columns : Plain
+two_columns : LinearProgram
 two_columns = record {
   columns = 2;
-  objective = (1, pos 2) ∷ (2, pos 3) ∷ [];
-  lines = record { terms = (1, pos 1) ∷ (2, pos 1) ∷ []; sense = AtLeast; right = pos 1 } ∷ [];
+  rows = record { from = from_somewhere; terms = (1, pos 1) ∷ (2, pos 1) ∷ []; sense = AtLeast; right = pos 1 } ∷ [];
+  target = record { maximize = false; place = Some (record { file = 0; line = 1 }); terms = (1, pos 2) ∷ (2, pos 3) ∷ [] };
 }
 
 two_columns-text : lp_text two_columns ≡ codes "\\ zimplc\nMinimize\n obj: 2 x1 + 3 x2\nSubject To\n r1: 1 x1 + 1 x2 >= 1\nBounds\n x1 >= 0\n x2 >= 0\nEnd\n"
@@ -42,30 +47,34 @@ unfolding two_columns
 two_columns-text = rw (zero_digit, one_digit, two_digit, three_digit)
 
 -- no column, no row, no objective
-no_columns : Plain
-no_columns = record { columns = 0; objective = []; lines = [] }
-
-no_columns-text : lp_text no_columns ≡ codes "\\ zimplc\nMinimize\n obj: 0 one\nSubject To\nBounds\n 1 <= one <= 1\nEnd\n"
-unfolding no_columns
+no_columns-text : lp_text empty_program ≡ codes "\\ zimplc\nMinimize\n obj: 0 one\nSubject To\nBounds\n 1 <= one <= 1\nEnd\n"
 no_columns-text = rw (zero_digit, one_digit)
 
 -- a row without terms that nothing meets
-no_terms : Plain
-no_terms = record { columns = 1; objective = []; lines = record { terms = []; sense = AtMost; right = negsuc 0 } ∷ [] }
+no_terms : LinearProgram
+no_terms = record {
+  columns = 1;
+  rows = record { from = from_somewhere; terms = []; sense = AtMost; right = negsuc 0 } ∷ [];
+  target = no_target;
+}
 
 no_terms-text : lp_text no_terms ≡ codes "\\ zimplc\nMinimize\n obj: 0 x1\nSubject To\n r1: 0 x1 <= -1\nBounds\n x1 >= 0\nEnd\n"
 unfolding no_terms
 no_terms-text = rw (zero_digit, one_digit)
 
--- five terms, of which the fifth stands on a line of its own
-five_terms : Plain
+-- five terms that are maximised, of which the fifth stands on a line of its own
+five_terms : LinearProgram
 five_terms = record {
   columns = 5;
-  objective = (1, negsuc 0) ∷ (2, negsuc 1) ∷ (3, pos 3) ∷ (4, negsuc 3) ∷ (5, pos 5) ∷ [];
-  lines = [];
+  rows = [];
+  target = record {
+    maximize = true;
+    place = Some (record { file = 0; line = 1 });
+    terms = (1, negsuc 0) ∷ (2, negsuc 1) ∷ (3, pos 3) ∷ (4, negsuc 3) ∷ (5, pos 5) ∷ [];
+  };
 }
 
-five_terms-text : lp_text five_terms ≡ codes "\\ zimplc\nMinimize\n obj: -1 x1 - 2 x2 + 3 x3 - 4 x4\n  + 5 x5\nSubject To\nBounds\n x1 >= 0\n x2 >= 0\n x3 >= 0\n x4 >= 0\n x5 >= 0\nEnd\n"
+five_terms-text : lp_text five_terms ≡ codes "\\ zimplc\nMaximize\n obj: -1 x1 - 2 x2 + 3 x3 - 4 x4\n  + 5 x5\nSubject To\nBounds\n x1 >= 0\n x2 >= 0\n x3 >= 0\n x4 >= 0\n x5 >= 0\nEnd\n"
 unfolding five_terms
 five_terms-text = rw (zero_digit, one_digit, two_digit, three_digit, four_digit, five_digit)
 

@@ -6,6 +6,6 @@ pub mod Parsing
 pub mod Examples
 pub mod File
 pub mod Meaning
-pub mod PlainFile
+pub mod ProgramFile
 pub mod Represent
 pub mod Pieces

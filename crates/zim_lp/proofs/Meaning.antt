@@ -7,8 +7,8 @@ use Rattle.zim_rational.specs.Rational.{Rational, zero}
 use Rattle.zim_instance.specs.Instance.{Column, Term, Row}
 use Rattle.zim_instance.specs.System.{NamedColumn, column_named, HasDistinctNames, Says}
 use Rattle.zim_instance.proofs.Points.{same-bytes_eq}
-use Rattle.zim_lp.specs.declared.plain.Sense.{Sense}
-use Rattle.zim_lp.specs.declared.plain.Sense.TheVariants.{AtLeast, AtMost, Equal}
+use Rattle.zim_rows.specs.declared.rows.Sense.{Sense}
+use Rattle.zim_rows.specs.declared.rows.Sense.TheVariants.{AtLeast, AtMost, Equal}
 use Rattle.zim_lp.specs.Words.{Word}
 use Rattle.zim_lp.specs.Program.{is_among, names_of_terms, names_of_program, name_of_bound, with_ends, with_bound, column_of_program, instance_of}
 use Rattle.zim_lp.specs.Reader.{lp}

@@ -9,8 +9,8 @@ use Rattle.std.proofs.lemmas.Bool.Decides.{nat_tests}
 use Rattle.std.proofs.lemmas.List.{length-append}
 use Rattle.zim_rational.specs.Rational.{Rational, negate}
 use Rattle.zim_instance.specs.Instance.{Term}
-use Rattle.zim_lp.specs.declared.plain.Sense.{Sense}
-use Rattle.zim_lp.specs.declared.plain.Sense.TheVariants.{AtLeast, AtMost, Equal}
+use Rattle.zim_rows.specs.declared.rows.Sense.{Sense}
+use Rattle.zim_rows.specs.declared.rows.Sense.TheVariants.{AtLeast, AtMost, Equal}
 use Rattle.zim_lp.specs.Words.{Word}
 use Rattle.zim_lp.specs.Numerals.{number_of_parts, number_of_word}
 use Rattle.zim_instance.proofs.Points.{same-bytes_eq}

@@ -6,8 +6,8 @@ use Rattle.std.specs.List.{AllByRecursion}
 use Rattle.zim_rational.specs.Rational.{Rational, zero}
 use Rattle.zim_instance.specs.Instance.{Term, Row}
 use Rattle.zim_instance.specs.System.{NamedColumn, System, HasDistinctNames}
-use Rattle.zim_lp.specs.declared.plain.Sense.{Sense}
-use Rattle.zim_lp.specs.declared.plain.Sense.TheVariants.{AtLeast, AtMost, Equal}
+use Rattle.zim_rows.specs.declared.rows.Sense.{Sense}
+use Rattle.zim_rows.specs.declared.rows.Sense.TheVariants.{AtLeast, AtMost, Equal}
 use Rattle.zim_lp.specs.Words.{Word}
 use Rattle.zim_lp.specs.Numerals.{number_of_word}
 use Rattle.zim_lp.specs.Program.{is_among}

@@ -2,8 +2,8 @@
 use Rattle.std.proofs.Common.{ℕ, ◌+◌, ◌%◌, Bool, true, false, cond, List, [], ◌∷◌, ◌++◌, Option, Some, None, refl}
 use Rattle.std.specs.Prelude.{◌==◌, codes, flat_map}
 use Rattle.std.specs.List.{AllByRecursion}
-use Rattle.zim_lp.specs.declared.plain.Sense.{Sense}
-use Rattle.zim_lp.specs.declared.plain.Sense.TheVariants.{AtLeast, AtMost, Equal}
+use Rattle.zim_rows.specs.declared.rows.Sense.{Sense}
+use Rattle.zim_rows.specs.declared.rows.Sense.TheVariants.{AtLeast, AtMost, Equal}
 use Rattle.zim_lp.specs.Words.{Word}
 use Rattle.zim_lp.specs.FileText.{WrittenNumber, WrittenTerm, WrittenRow, WrittenColumn, number_text, first_term_text, break_text, sign_text, further_term_text, numbered_text, terms_text, sense_text, row_text, ends_text, bound_text, general_text}
 use Rattle.zim_lp.proofs.Cutting.{IsWord, Closed, Open, Further, Open-word, Closed-Closed, Closed-Open, Open-Further, Open-Closed, Further-Further, Further-nil, Further-Open}

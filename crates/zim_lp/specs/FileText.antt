@@ -1,7 +1,7 @@
 -- The text of a file in the LP format, put together from names and from numbers as they are written.
 use Rattle.std.specs.Prelude.{ℕ, ◌+◌, ◌%◌, ◌==◌, Bool, if◌then◌else◌, List, [], ◌∷◌, ◌++◌, filter, flat_map, Option, Some, None, codes}
-use Rattle.zim_lp.specs.declared.plain.Sense.{Sense}
-use Rattle.zim_lp.specs.declared.plain.Sense.TheVariants.{AtLeast, AtMost, Equal}
+use Rattle.zim_rows.specs.declared.rows.Sense.{Sense}
+use Rattle.zim_rows.specs.declared.rows.Sense.TheVariants.{AtLeast, AtMost, Equal}
 
 -- A number as it is written: whether a minus stands first, and the text of its absolute value.
 pub record WrittenNumber : Type 0 where

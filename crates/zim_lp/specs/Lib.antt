@@ -1,4 +1,3 @@
-pub mod Plain
 pub mod Words
 pub mod Numerals
 pub mod Program

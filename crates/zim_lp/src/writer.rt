@@ -2,31 +2,33 @@ ghost use Rattle.std.specs.Prelude.{◌≡◌, [], map, flat_map, IsSome, int_lt
 ghost use Rattle.std.specs.List.{range_with_len};
 ghost use Rattle.zim_gate.specs.Folder.{Puts};
 ghost use Rattle.zim_gate.specs.Pen.{Writes};
-ghost use Rattle.zim_lp.specs.Plain.{IsWritable};
-ghost use Rattle.zim_lp.specs.Correct.{SaysPlain};
-ghost use Rattle.zim_lp.specs.FileText.{number_text, first_term_text, break_text, sign_text, further_term_text, numbered_text, terms_text, sense_text, row_text, bound_text};
-ghost use Rattle.zim_lp.specs.Text.{whole_number, column_name, first_name, written_term, written_terms, row_label, written_row, written_rows, written_column, written_columns, lp_text};
+ghost use Rattle.zim_rows.specs.Finished.{program_of};
+ghost use Rattle.zim_rows.specs.Named.{column_name};
+ghost use Rattle.zim_lp.specs.Correct.{SaysProgram};
+ghost use Rattle.zim_lp.specs.FileText.{number_text, first_term_text, break_text, sign_text, further_term_text, numbered_text, terms_text, aim_text, sense_text, row_text, bound_text};
+ghost use Rattle.zim_lp.specs.Text.{whole_number, first_name, written_term, written_terms, row_label, written_row, written_rows, written_column, written_columns, lp_text};
 
-use crate::plain::{Plain, PlainRow, Sense};
 use zim_gate::{Failed, Folder, Pen};
+use zim_rows::{Finished, Row, Sense};
 
 /// A put failed.
 pub type PutFault = Failed;
 
-/// Puts the text of a system to the file that is begun, and leaves it begun.
+/// Puts the LP text of a system to the file that is begun, and leaves it begun.
 ///
 /// After `Failed` a prefix of the text was put. Read in the LP format, the text says the system.
-pub fn write<F: Folder>(system: &Plain, folder: &mut F) -> Result<(), PutFault>
-    requires begun { IsSome (F.state folder.old).begun }
-    requires writable { IsWritable system.now }
-    ensures text { Puts (F.state folder.old) (F.state folder.new) (lp_text system.now) result }
-    ensures says { SaysPlain (lp_text system.now) system.now }
+pub fn write<F: Folder>(system: &Finished, folder: &mut F) -> Result<(), PutFault>
+    requires { IsSome (F.state folder.old).begun }
+    ensures text { Puts (F.state folder.old) (F.state folder.new) (lp_text (program_of system.now)) result }
+    ensures says { SaysProgram (lp_text (program_of system.now)) (program_of system.now) }
 {
     let mut pen = Pen::new(folder);
-    pen.put(b"\\ zimplc\nMinimize\n obj: ");
-    put_terms(&mut pen, system.columns, system.objective.as_slice());
+    pen.put(b"\\ zimplc\n");
+    pen.put(text_of_aim(system.target.maximize));
+    pen.put(b" obj: ");
+    put_terms(&mut pen, system.columns, system.target.terms.as_slice());
     pen.put(b"\nSubject To\n");
-    put_rows(&mut pen, system.columns, system.lines.as_slice());
+    put_rows(&mut pen, system.columns, system.rows.as_slice());
     pen.put(b"Bounds\n");
     put_bounds(&mut pen, system.columns);
     pen.put(b"End\n");
@@ -34,24 +36,24 @@ pub fn write<F: Folder>(system: &Plain, folder: &mut F) -> Result<(), PutFault>
 }
 
 /// Puts the rows in order, numbered from 1, in a file with so many columns.
-fn put_rows<F: Folder>(pen: &mut Pen<F>, columns: u32, lines: &[PlainRow])
-    ensures { Writes F.state pen.old pen.new (flat_map row_text (written_rows columns 1 lines.now)) }
+fn put_rows<F: Folder>(pen: &mut Pen<F>, columns: u32, rows: &[Row])
+    ensures { Writes F.state pen.old pen.new (flat_map row_text (written_rows columns 1 rows.now)) }
 {
-    for (index, line) in lines.iter().enumerate() {
-        put_row(pen, columns, index + 1, line);
+    for (index, row) in rows.iter().enumerate() {
+        put_row(pen, columns, index + 1, row);
     }
 }
 
 /// Puts a row, by its number.
-fn put_row<F: Folder>(pen: &mut Pen<F>, columns: u32, row: usize, line: &PlainRow)
-    ensures { Writes F.state pen.old pen.new (row_text (written_row columns row line.now)) }
+fn put_row<F: Folder>(pen: &mut Pen<F>, columns: u32, number: usize, row: &Row)
+    ensures { Writes F.state pen.old pen.new (row_text (written_row columns number row.now)) }
 {
     pen.put(b" ");
-    put_row_label(pen, row);
+    put_row_label(pen, number);
     pen.put(b" ");
-    put_terms(pen, columns, line.terms.as_slice());
-    pen.put(text_of_sense(line.sense));
-    put_number(pen, line.right);
+    put_terms(pen, columns, row.terms.as_slice());
+    pen.put(text_of_sense(row.sense));
+    put_number(pen, row.right);
     pen.put(b"\n");
 }
 
@@ -181,5 +183,15 @@ fn text_of_sense(sense: Sense) -> &'static [u8]
         Sense::AtLeast => b" >= ",
         Sense::AtMost => b" <= ",
         Sense::Equal => b" = ",
+    }
+}
+
+fn text_of_aim(maximises: bool) -> &'static [u8]
+    ensures { result.now ≡ aim_text maximises }
+{
+    if maximises {
+        b"Maximize\n"
+    } else {
+        b"Minimize\n"
     }
 }

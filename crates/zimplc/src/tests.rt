@@ -24,7 +24,12 @@ fn outcome_of(alloc: Global, model: &[u8], words: &[&str], room: usize) -> Resul
         Bytes::from_slice(alloc, b"m.zpl")?,
         Bytes::from_slice(alloc, model)?,
     ))?;
-    let mut folder = MemoryFolder::new(alloc, files, room, Vec::new(alloc))?;
+    let folder = MemoryFolder::new(alloc, files, room, Vec::new(alloc))?;
+    outcome_in(alloc, folder, words)
+}
+
+/// Runs the command over a folder.
+fn outcome_in(alloc: Global, mut folder: MemoryFolder, words: &[&str]) -> Result<Ran, Fail> {
     let mut out = MemorySink::new(alloc, ROOM, Vec::new(alloc))?;
     let mut err = MemorySink::new(alloc, ROOM, Vec::new(alloc))?;
     let mut given = Vec::new(alloc);
@@ -42,6 +47,8 @@ fn outcome_of(alloc: Global, model: &[u8], words: &[&str], room: usize) -> Resul
 /// The words of the usual run.
 const COMPILE: [&str; 3] = ["m.zpl", "--out", "m"];
 
+const TWO_VARIABLES_MODEL: &[u8] = b"var x; var y; minimize c: 2*x+3*y; subto a: x+y >= 1;";
+
 const TWO_VARIABLES: &[u8] = b"\\ zimplc
 Minimize
  obj: 2 x1 + 3 x2
@@ -53,6 +60,74 @@ Bounds
 End
 ";
 
+const TWO_VARIABLES_MPS: &[u8] = b"NAME zimplc
+ROWS
+ N obj
+ G r1
+COLUMNS
+ x1 obj 2
+ x1 r1 1
+ x2 obj 3
+ x2 r1 1
+RHS
+ RHS r1 1
+BOUNDS
+ LO BND x1 0
+ PL BND x1
+ LO BND x2 0
+ PL BND x2
+ENDATA
+";
+
+const TWO_VARIABLES_TABLE: &[u8] = b"zimplc table 1
+factor lp 1
+factor mps 1
+objective minimize c
+column x1 x
+column x2 y
+row r1 a 1 1
+end
+";
+
+const MOST: &[u8] = b"\\ zimplc
+Maximize
+ obj: 2 x1 - 3 x2
+Subject To
+ r1: 1 x1 <= 4
+Bounds
+ x1 >= 0
+ x2 >= 0
+End
+";
+
+const MOST_MPS: &[u8] = b"NAME zimplc
+ROWS
+ N obj
+ L r1
+COLUMNS
+ x1 obj -2
+ x1 r1 1
+ x2 obj 3
+RHS
+ RHS r1 4
+BOUNDS
+ LO BND x1 0
+ PL BND x1
+ LO BND x2 0
+ PL BND x2
+ENDATA
+";
+
+const MOST_TABLE: &[u8] = b"zimplc table 1
+factor lp 1
+factor mps -1
+objective maximize p
+column x1 x
+column x2 y
+row r1 a 1 1
+end
+";
+
 const NO_VARIABLE: &[u8] = b"\\ zimplc
 Minimize
  obj: 0 one
@@ -62,13 +137,45 @@ Bounds
 End
 ";
 
+const NO_VARIABLE_MPS: &[u8] = b"NAME zimplc
+ROWS
+ N obj
+COLUMNS
+ one obj 0
+RHS
+BOUNDS
+ LO BND one 1
+ UP BND one 1
+ENDATA
+";
+
+const NO_VARIABLE_TABLE: &[u8] = b"zimplc table 1
+factor lp 1
+factor mps 1
+objective none
+offset one
+end
+";
+
 #[test]
 fn two_variables_and_a_constraint(rt: HostRuntime) -> Result<(), Fail> {
-    let text = b"var x; var y; minimize c: 2*x+3*y; subto a: x+y >= 1;";
-    let ran = outcome_of(rt.alloc(), text, &COMPILE, ROOM)?;
+    let ran = outcome_of(rt.alloc(), TWO_VARIABLES_MODEL, &COMPILE, ROOM)?;
     assert!(rt; ran.status == Status::Done);
     assert!(rt; ran.folder.bytes_of(b"m.lp") == Some(TWO_VARIABLES));
+    assert!(rt; ran.folder.bytes_of(b"m.mps") == Some(TWO_VARIABLES_MPS));
+    assert!(rt; ran.folder.bytes_of(b"m.tbl") == Some(TWO_VARIABLES_TABLE));
     assert!(rt; ran.err.taken() == b"".as_slice());
+    Ok(())
+}
+
+#[test]
+fn an_objective_to_be_maximised(rt: HostRuntime) -> Result<(), Fail> {
+    let text = b"var x; var y; maximize p: 2*x-3*y; subto a: x <= 4;";
+    let ran = outcome_of(rt.alloc(), text, &COMPILE, ROOM)?;
+    assert!(rt; ran.status == Status::Done);
+    assert!(rt; ran.folder.bytes_of(b"m.lp") == Some(MOST));
+    assert!(rt; ran.folder.bytes_of(b"m.mps") == Some(MOST_MPS));
+    assert!(rt; ran.folder.bytes_of(b"m.tbl") == Some(MOST_TABLE));
     Ok(())
 }
 
@@ -77,6 +184,8 @@ fn an_empty_model(rt: HostRuntime) -> Result<(), Fail> {
     let ran = outcome_of(rt.alloc(), b"", &COMPILE, ROOM)?;
     assert!(rt; ran.status == Status::Done);
     assert!(rt; ran.folder.bytes_of(b"m.lp") == Some(NO_VARIABLE));
+    assert!(rt; ran.folder.bytes_of(b"m.mps") == Some(NO_VARIABLE_MPS));
+    assert!(rt; ran.folder.bytes_of(b"m.tbl") == Some(NO_VARIABLE_TABLE));
     Ok(())
 }
 
@@ -94,7 +203,6 @@ fn words_that_are_no_job(rt: HostRuntime) -> Result<(), Fail> {
 fn models_that_are_refused(rt: HostRuntime) -> Result<(), Fail> {
     for text in [
         "var x; subto a: x+x >= 1;",
-        "var x; subto a: x >= 1",
         "var x; subto a: y >= 1;",
         "var x; var x;",
         "var x; minimize o: 0*x;",
@@ -106,6 +214,29 @@ fn models_that_are_refused(rt: HostRuntime) -> Result<(), Fail> {
         assert!(rt; ran.status == Status::Refused);
         assert!(rt; ran.err.taken() == b"m.zpl:1: 5 Syntax\n".as_slice());
         assert!(rt; ran.folder.bytes_of(b"m.lp") == None);
+    }
+    Ok(())
+}
+
+#[test]
+fn faults_with_their_lines(rt: HostRuntime) -> Result<(), Fail> {
+    for (text, line) in [
+        ("var x;\nsubto a b;", b"m.zpl:2: 5 Syntax\n".as_slice()),
+        (
+            "var x;\nsubto a: x >= 1",
+            b"m.zpl:2: 6 OpenStatement\n".as_slice(),
+        ),
+        (
+            "subto a b;\nvar x",
+            b"m.zpl:2: 6 OpenStatement\n".as_slice(),
+        ),
+        ("var x;\n&", b"m.zpl:2: 5 Syntax\n".as_slice()),
+        ("subto a b\n\n&", b"m.zpl:3: 5 Syntax\n".as_slice()),
+    ] {
+        let ran = outcome_of(rt.alloc(), text.as_bytes(), &COMPILE, ROOM)?;
+        assert!(rt; ran.status == Status::Refused);
+        assert!(rt; ran.err.taken() == line);
+        assert!(rt; ran.folder.bytes_of(b"m.tbl") == None);
     }
     Ok(())
 }
@@ -136,5 +267,30 @@ fn a_file_without_room(rt: HostRuntime) -> Result<(), Fail> {
     assert!(rt; ran.status == Status::WriteFault);
     assert!(rt; ran.err.taken() == b"zimplc: cannot write m.lp\n".as_slice());
     assert!(rt; ran.folder.bytes_of(b"m.lp") == Some(b"\\ zimplc\n".as_slice()));
+    assert!(rt; ran.folder.bytes_of(b"m.mps") == None);
+    assert!(rt; ran.folder.bytes_of(b"m.tbl") == Some(b"".as_slice()));
+    Ok(())
+}
+
+#[test]
+fn a_put_that_fails(rt: HostRuntime) -> Result<(), Fail> {
+    let alloc = rt.alloc();
+    let mut files = Vec::new(alloc);
+    files.push((
+        Bytes::from_slice(alloc, b"m.zpl")?,
+        Bytes::from_slice(alloc, TWO_VARIABLES_MODEL)?,
+    ))?;
+    files.push((
+        Bytes::from_slice(alloc, b"m.mps")?,
+        Bytes::from_slice(alloc, b"an old file")?,
+    ))?;
+    // The calls before it: open, two reads, begin and end of the table, begin of the LP file.
+    let folder = MemoryFolder::new(alloc, files, ROOM, vec![in alloc; 7]?)?;
+    let ran = outcome_in(alloc, folder, &COMPILE)?;
+    assert!(rt; ran.status == Status::WriteFault);
+    assert!(rt; ran.err.taken() == b"zimplc: cannot write m.lp\n".as_slice());
+    assert!(rt; ran.folder.bytes_of(b"m.lp") == Some(b"".as_slice()));
+    assert!(rt; ran.folder.bytes_of(b"m.mps") == Some(b"an old file".as_slice()));
+    assert!(rt; ran.folder.bytes_of(b"m.tbl") == Some(b"".as_slice()));
     Ok(())
 }

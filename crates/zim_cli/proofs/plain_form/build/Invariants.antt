@@ -1,10 +1,10 @@
-use Rattle.std.proofs.Common.{◌≤◌, length, map, take}
-use Rattle.zim_cli.specs.PlainReader.{statement_of}
-use Rattle.zim_cli.specs.PlainBuild.{built, Stands}
+use Rattle.std.proofs.Common.{take}
+use Rattle.zim_cli.specs.PlainBuild.{built, IsSmall}
+use Rattle.zim_cli.proofs.SystemLaws.{StandsSoFar}
 use Rattle.zim_cli.proofs.plain_form.build.Given as goal
 
-abbrev pub invariant-loop-statement : goal.invariant-loop-statement
-invariant-loop-statement l = record {
-  stands : Stands (map statement_of (take l.statement-index l.statements)) (built l.builder);
-  few : length l.builder.variables.keys ≤ 1000000;
+abbrev pub invariant-loop-span : goal.invariant-loop-span
+invariant-loop-span l = record {
+  stands : StandsSoFar l.tokens (take l.span-index l.spans) (built l.builder);
+  small : IsSmall (built l.builder);
 }

@@ -1,0 +1,163 @@
+-- The names in a model are fields of a line.
+use Rattle.std.proofs.Common.{◌≡◌, ℕ, zero, suc, ◌<◌, Bool, true, false, List, [], ◌∷◌, ◌++◌, length, map, take, drop, Option, Some, None, refl, sym, ◌∙◌, ap, subst, arith, cond}
+use Rattle.std.specs.Prelude.{All, ⊤, ◌&&◌, not, IfSome, option_map}
+use Rattle.std.specs.Option.{option_or}
+use Rattle.std.specs.List.{AllByRecursion, list_all, flat_map}
+use Rattle.std.proofs.lemmas.Bool.Decides.{nat_tests}
+use Rattle.std.proofs.lemmas.List.{length-map}
+use Rattle.std.proofs.lemmas.List.Elements.{All-from_recursion}
+use Rattle.zim_fault.specs.declared.faults.Place.{Place}
+use Rattle.zim_fault.specs.declared.signs.Sign.{Sign}
+use Rattle.zim_fault.specs.declared.words.Word.{Word}
+use Rattle.zim_fault.specs.declared.tokens.Token.{Token}
+use Rattle.zim_fault.specs.declared.tokens.Token.TheVariants as token
+use Rattle.zim_fault.specs.declared.tokens.Placed.{Placed}
+use Rattle.zim_fields.specs.Fields.{IsPlainByte, IsField}
+use Rattle.zim_lex.specs.declared.lines.Line.{Line}
+use Rattle.zim_lex.specs.declared.lines.Span.{Span}
+use Rattle.zim_lex.specs.Classes.{begins_name, continues_name}
+use Rattle.zim_lex.specs.Pieces.{is_word, is_name, is_number, token_of}
+use Rattle.zim_lex.specs.Spelled.{word_in, sign_in}
+use Rattle.zim_lex.specs.Tokens.{placed_token, tokens_at, AreTokens, none, more}
+use Rattle.zim_rows.specs.Finished.{program_of}
+use Rattle.zim_table.specs.Correct.{IsStatement, CanBeListed}
+use Rattle.zim_table.specs.declared.names.Names.{Names}
+use Rattle.zim_cli.specs.declared.plain_form.PlainModel.{PlainModel}
+use Rattle.zim_cli.specs.PlainForm.{Statement, Variable, Objective, Constraint, Model, spelled_statement, variables, name_of}
+use Rattle.zim_cli.specs.PlainSystem.{Says}
+use Rattle.zim_cli.specs.Segments.{segment, Spell}
+use Rattle.zim_cli.proofs.ProgramLaws.{position_there, rows_there, rows_rise}
+
+-- bytes
+
+and_both : (a b : Bool) → (a && b) ≡ true → (a ≡ true) × (b ≡ true)
+and_both true b e = (refl, e)
+and_both false b e = cc
+
+first_plain : (b : ℕ) → begins_name b ≡ true → IsPlainByte b
+first_plain b e = record { blank = grind (arith, nat_tests); line_end = grind (arith, nat_tests) }
+
+next_plain : (b : ℕ) → continues_name b ≡ true → IsPlainByte b
+next_plain b e = record { blank = grind (arith, nat_tests); line_end = grind (arith, nat_tests) }
+
+all_plain : (bs : List ℕ) → list_all continues_name bs ≡ true → AllByRecursion IsPlainByte bs
+all_plain [] e = tt
+all_plain (b ∷ bs) e = let both = and_both (continues_name b) (list_all continues_name bs) e in (next_plain b both.0, all_plain bs both.1)
+
+name_field : (piece : List ℕ) → is_name piece ≡ true → IsField piece
+name_field [] e = cc
+name_field (b ∷ bs) e =
+    let begun = and_both (begins_name b && list_all continues_name bs) (not (is_word (b ∷ bs))) e in
+    let both = and_both (begins_name b) (list_all continues_name bs) begun.0 in
+    record { some = refl; plain = (first_plain b both.0, all_plain bs both.1) }
+
+-- tokens
+
+abbrev IsNamed : Token → Type 0
+IsNamed (token.Name name) = IsField name
+IsNamed _ = ⊤
+
+spelled_named : (w : Option Word) (s : Option Sign) (t : Token) → option_or (option_map token.Word w) (option_map token.Sign s) ≡ Some t → IsNamed t
+spelled_named (Some w) s t e = let same : token.Word w ≡ t = cc in subst IsNamed same tt
+spelled_named None (Some s) t e = let same : token.Sign s ≡ t = cc in subst IsNamed same tt
+spelled_named None None t e = cc
+
+token_named : (piece : List ℕ) (t : Token) → token_of piece ≡ Some t → IsNamed t
+unfolding token_of
+token_named piece t e = by_name (is_name piece) (is_number piece) refl e
+  where
+    by_name : (a b : Bool) → is_name piece ≡ a → cond a (Some (token.Name piece)) (cond b (Some (token.Number piece)) (option_or (option_map token.Word (word_in piece)) (option_map token.Sign (sign_in piece)))) ≡ Some t → IsNamed t
+    by_name true b is h = let same : token.Name piece ≡ t = cc in subst IsNamed same (name_field piece is)
+    by_name false true is h = let same : token.Number piece ≡ t = cc in subst IsNamed same tt
+    by_name false false is h = spelled_named (word_in piece) (sign_in piece) t h
+
+abbrev AreNamed : List Placed → Type 0
+AreNamed placed = AllByRecursion (λ (p : Placed). IsNamed p.token) placed
+
+named_append : (xs ys : List Placed) → AreNamed xs → AreNamed ys → AreNamed (xs ++ ys)
+named_append [] ys h k = k
+named_append (x ∷ xs) ys h k = (h.0, named_append xs ys h.1 k)
+
+piece_named : (place : Place) (piece : List ℕ) → AreNamed (placed_token place (token_of piece))
+piece_named place piece = by_token (token_of piece) refl
+  where
+    by_token : (o : Option Token) → token_of piece ≡ o → AreNamed (placed_token place o)
+    by_token None is = tt
+    by_token (Some t) is = (token_named piece t is, tt)
+
+pieces_named : (place : Place) (pieces : List (List ℕ)) → AreNamed (tokens_at place pieces)
+unfolding tokens_at
+pieces_named place [] = tt
+pieces_named place (piece ∷ pieces) = named_append (placed_token place (token_of piece)) (flat_map (λ p. placed_token place (token_of p)) pieces) (piece_named place piece) (pieces_named place pieces)
+
+tokens_named : (lines : List Line) (placed : List Placed) → AreTokens lines placed → AreNamed placed
+tokens_named _ _ none = tt
+tokens_named _ _ (more line lines first others at rest) =
+    named_append first others (subst AreNamed (sym at.tokens_are) (pieces_named line.place at.pieces)) (tokens_named lines others rest)
+
+-- segments
+
+named_take : (n : ℕ) (xs : List Placed) → AreNamed xs → AreNamed (take n xs)
+named_take zero xs h = tt
+named_take (suc n) [] h = tt
+named_take (suc n) (x ∷ xs) h = (h.0, named_take n xs h.1)
+
+named_drop : (n : ℕ) (xs : List Placed) → AreNamed xs → AreNamed (drop n xs)
+named_drop zero xs h = h
+named_drop (suc n) [] h = tt
+named_drop (suc n) (x ∷ xs) h = named_drop n xs h.1
+
+named_tokens : (xs : List Placed) → AreNamed xs → AllByRecursion IsNamed (map (λ (p : Placed). p.token) xs)
+named_tokens [] h = tt
+named_tokens (x ∷ xs) h = (h.0, named_tokens xs h.1)
+
+segment_named : (placed : List Placed) (span : Span) → AreNamed placed → AllByRecursion IsNamed (segment placed span)
+segment_named placed span h = named_tokens _ (named_take _ _ (named_drop span.from placed h))
+
+statement_named : (s : Statement) → AllByRecursion IsNamed (spelled_statement s) → IsField (name_of s)
+statement_named (Variable name) h = h.1.0
+statement_named (Objective maximize name terms) h = h.1.0
+statement_named (Constraint name terms sense negative digits) h = h.1.0
+
+cons_parts : {X : Type 0} (a b : X) (xs ys : List X) → a ∷ xs ≡ b ∷ ys → (a ≡ b) × (xs ≡ ys)
+cons_parts a b xs ys e = (cc, cc)
+
+statements_named : (placed : List Placed) (spans : List Span) (model : Model) → AreNamed placed → Spell placed spans model → AllByRecursion (λ (s : Statement). IsField (name_of s)) model
+statements_named placed [] [] named e = tt
+statements_named placed [] (s ∷ model) named e = cc
+statements_named placed (span ∷ spans) [] named e = cc
+statements_named placed (span ∷ spans) (s ∷ model) named e =
+    let both = cons_parts (segment placed span) (spelled_statement s) (map (segment placed) spans) (map spelled_statement model) e in
+    (statement_named s (subst (AllByRecursion IsNamed) both.0 (segment_named placed span named)), statements_named placed spans model named both.1)
+
+variables_fields : (model : Model) → AllByRecursion (λ (s : Statement). IsField (name_of s)) model → AllByRecursion IsField (variables model)
+variables_fields [] h = tt
+variables_fields (Variable name ∷ model) h = (h.0, variables_fields model h.1)
+variables_fields (Objective maximize name terms ∷ model) h = variables_fields model h.1
+variables_fields (Constraint name terms sense negative digits ∷ model) h = variables_fields model h.1
+
+names_fields : (model : Model) → AllByRecursion (λ (s : Statement). IsField (name_of s)) model → AllByRecursion IsField (map name_of model)
+names_fields [] h = tt
+names_fields (s ∷ model) h = (h.0, names_fields model h.1)
+
+is_statement : (names : Names) (position count : ℕ) → length names.statements ≡ count → All IsField names.statements → position < count → IsStatement names position
+is_statement names position count e fields low = record { there = omega (arith, e, low); name = fields position [] (omega (arith, e, low)) }
+
+objective_statement : (names : Names) (count : ℕ) (o : Option ℕ) → length names.statements ≡ count → All IsField names.statements → IfSome o (λ (position : ℕ). position < count) → IfSome o (IsStatement names)
+objective_statement names count None e fields low = tt
+objective_statement names count (Some position) e fields low = is_statement names position count e fields low
+
+-- what the lines of a model give can be listed
+pub can_be_listed : (lines : List Line) (placed : List Placed) (spans : List Span) (model : Model) (read : PlainModel) → AreTokens lines placed → Spell placed spans model → Says model read → CanBeListed (program_of read.system) read.variables read.names
+can_be_listed lines placed spans model read tokens spell says =
+    let each : AllByRecursion (λ (s : Statement). IsField (name_of s)) model = statements_named placed spans model (tokens_named lines placed tokens) spell in
+    let count : length read.names.statements ≡ length model = ap length says.statements ∙ length-map model name_of in
+    let fields : All IsField read.names.statements = subst (All IsField) (sym says.statements) (All-from_recursion IsField (map name_of model) (names_fields model each)) in
+    record {
+      one_each = ap length says.variables_are ∙ sym says.columns;
+      variable_names = subst (All IsField) (sym says.variables_are) (All-from_recursion IsField (variables model) (variables_fields model each));
+      statements = λ k d low. is_statement read.names _ (length model) count fields (rows_there (variables model) model read.system.rows says.rows_are k d low);
+      rising = rows_rise (variables model) 0 model read.system.rows says.rows_are;
+      objective = objective_statement read.names (length model) read.names.objective count fields
+          (subst (λ (o : Option ℕ). IfSome o (λ (position : ℕ). position < length model)) (sym says.objective_is) (position_there 0 (length model) model (omega arith)));
+    }

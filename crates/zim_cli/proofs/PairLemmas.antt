@@ -1,0 +1,66 @@
+-- The file columns that a table pairs with names are columns of the files, each once.
+use Rattle.std.proofs.Common.{◌≡◌, ◌≢◌, ◌^◌, ℕ, zero, suc, ◌+◌, ◌<◌, ◌≤◌, Bool, true, false, List, [], ◌∷◌, length, map, get_or, Option, Some, refl, sym, ◌∙◌, ap, subst, arith}
+use Rattle.std.specs.Prelude.{AllPairs, IsSome, codes, decimal, if◌then◌else◌}
+use Rattle.std.specs.List.{AllByRecursion, enumerate_from, range_with_len}
+use Rattle.std.specs.Str.{bytes_eq}
+use Rattle.std.proofs.lemmas.Bool.{false≢true}
+use Rattle.std.proofs.lemmas.Fmt.{decimal_injective}
+use Rattle.std.proofs.lemmas.List.{append_cancel_left, length-map}
+use Rattle.std.proofs.lemmas.List.FromFn.{length-enumerate_from}
+use Rattle.zim_instance.specs.Instance.{Column}
+use Rattle.zim_instance.specs.System.{NamedColumn, column_named}
+use Rattle.zim_instance.proofs.Points.{bytes_eq-same}
+use Rattle.zim_rows.specs.declared.rows.TheConstants.{MOST_COLUMNS}
+use Rattle.zim_rows.specs.Named.{column_name, named_column, file_columns}
+use Rattle.zim_table.specs.Reader.{Pair}
+use Rattle.zim_table.specs.Correct.{numbered_pair}
+use Rattle.zim_cli.specs.PlainForm.{Text}
+
+-- the pairs of names whose first has the file column of this number
+abbrev pairs_from : ℕ → List Text → List Pair
+pairs_from first names = map numbered_pair (enumerate_from first names)
+
+-- a column stands under its name
+named_there : (a n j : ℕ) → a ≤ j → j < a + n → IsSome (column_named (map named_column (range_with_len a n)) (column_name j))
+named_there a zero j l h = absurd (omega arith)
+named_there a (suc n) j l h = by (bytes_eq (column_name j) (column_name a)) refl (λ low. named_there (a + 1) n j low (omega arith))
+  where
+    by : (b : Bool) → bytes_eq (column_name j) (column_name a) ≡ b → (a + 1 ≤ j → IsSome (column_named (map named_column (range_with_len (a + 1) n)) (column_name j))) → IsSome (if b then Some (named_column a).column else column_named (map named_column (range_with_len (a + 1) n)) (column_name j))
+    by true e later = refl
+    by false e later =
+        let other : j ≢ a = λ same. false≢true (sym e ∙ subst (λ (k : ℕ). bytes_eq (column_name j) (column_name k) ≡ true) same (bytes_eq-same (column_name j))) in
+        later (omega arith)
+
+pairs_there : (a n first : ℕ) (names : List Text) → a ≤ first → first + length names ≤ a + n → AllByRecursion (λ (p : Pair). IsSome (column_named (map named_column (range_with_len a n)) p.column)) (pairs_from first names)
+pairs_there a n first [] l h = tt
+pairs_there a n first (name ∷ names) l h = (named_there a n first l (omega arith), pairs_there a n (first + 1) names (omega arith) (omega arith))
+
+-- each name's file column is a column of the file
+pub pairs_in_file : (n : ℕ) (names : List Text) → length names ≡ n → AllByRecursion (λ (p : Pair). IsSome (column_named (file_columns n) p.column)) (pairs_from 1 names)
+pairs_in_file zero [] e = tt
+pairs_in_file zero (name ∷ names) e = absurd (omega arith)
+pairs_in_file (suc n) names e = pairs_there 1 (suc n) 1 names (omega arith) (omega arith)
+
+-- the same where an instance has the columns
+pub pairs_in_instance : (column : List ℕ → Option Column) (cs : List NamedColumn) (pairs : List Pair) → ((name : List ℕ) → column name ≡ column_named cs name) → AllByRecursion (λ (p : Pair). IsSome (column_named cs p.column)) pairs → AllByRecursion (λ (p : Pair). IsSome (column p.column)) pairs
+pairs_in_instance column cs [] same h = tt
+pairs_in_instance column cs (p ∷ pairs) same h =
+    (subst (λ (c : Option Column). IsSome c) (sym (same p.column)) h.0, pairs_in_instance column cs pairs same h.1)
+
+column_at : (first : ℕ) (names : List Text) (i : ℕ) (d : Pair) → i < length names → (get_or (pairs_from first names) i d).column ≡ column_name (first + i)
+column_at first [] i d l = absurd (omega arith)
+column_at first (name ∷ names) zero d l = let same : first ≡ first + 0 = omega arith in ap column_name same
+column_at first (name ∷ names) (suc i) d l = let same : first + 1 + i ≡ first + suc i = omega arith in column_at (first + 1) names i d (omega arith) ∙ ap column_name same
+
+one_number : (i j : ℕ) → i < 2 ^ 64 → j < 2 ^ 64 → column_name i ≡ column_name j → i ≡ j
+one_number i j h k e = decimal_injective i j h k (append_cancel_left (codes "x") (decimal i) (decimal j) e)
+
+-- no two names have the same file column
+pub pairs_apart : (names : List Text) → length names ≤ MOST_COLUMNS → AllPairs (λ (p later : Pair). p.column ≢ later.column) (pairs_from 1 names)
+pairs_apart names few i j d l m e =
+    let count : length (pairs_from 1 names) ≡ length names = length-map (enumerate_from 1 names) numbered_pair ∙ length-enumerate_from 1 names in
+    let within : j < length names = omega (arith, count) in
+    let same : 1 + i ≡ 1 + j =
+    one_number (1 + i) (1 + j) (omega arith) (omega arith)
+    (sym (column_at 1 names i d (omega arith)) ∙ (e ∙ column_at 1 names j d within)) in
+    omega arith

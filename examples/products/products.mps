@@ -1,0 +1,23 @@
+NAME zimplc
+ROWS
+ N obj
+ L r1
+ L r2
+ L r3
+COLUMNS
+ x1 obj -3
+ x1 r1 1
+ x1 r3 3
+ x2 obj -5
+ x2 r2 2
+ x2 r3 2
+RHS
+ RHS r1 4
+ RHS r2 12
+ RHS r3 18
+BOUNDS
+ LO BND x1 0
+ PL BND x1
+ LO BND x2 0
+ PL BND x2
+ENDATA
