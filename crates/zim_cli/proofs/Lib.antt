@@ -16,7 +16,6 @@ mod CompileLemmas
 mod EndedTable
 mod FieldLemmas
 mod SpanLemmas
-mod FilesLemmas
 mod FirstFaultLemmas
 mod FilesOfLemmas
 mod OutputsLemmas

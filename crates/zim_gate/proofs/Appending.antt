@@ -16,7 +16,7 @@ same_files : (a b : Files) → ((q : List ℕ) → map.get a q ≡ map.get b q) 
 same_files a b h = map.same_map nat_list_cmp_total (map.slice_cmp-IsAntisymmetric map.nat_cmp-IsAntisymmetric) a b h
 
 -- what a name holds after an insert
-get_after : (files : Files) (name bytes q : List ℕ) →
+pub get_after : (files : Files) (name bytes q : List ℕ) →
     map.get (map.insert files name bytes) q ≡ cond (eq_by_cmp (slice_cmp nat_cmp) q name) (Some bytes) (map.get files q)
 get_after files name bytes q = map.get-insert nat_list_cmp_total files name bytes q
 

@@ -1,4 +1,4 @@
-mod Appending
+pub mod Appending
 mod Counting
 mod Finding
 pub mod Going

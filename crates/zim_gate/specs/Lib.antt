@@ -11,3 +11,4 @@ pub mod MemoryFolderLaws
 pub mod MemorySink
 pub mod Untold
 pub mod DiskFolder
+pub mod StreamSink

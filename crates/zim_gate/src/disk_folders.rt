@@ -1,4 +1,5 @@
 ghost use Rattle.std.specs.Prelude.{◌≡◌, ◌≤◌, length, option_map, IfOk, IsUtf8};
+ghost use Rattle.zim_gate.specs.DiskFolder.{disk_state, new_disk};
 
 use crate::calls::one_more;
 use crate::folders::Folder;
@@ -32,8 +33,10 @@ pub struct DiskFolder<'a, R: Files> {
 }
 
 impl<'a, R: Files> DiskFolder<'a, R> {
-    /// The folder that the runtime's files are in.
-    pub fn new(alloc: Global, files: &'a R) -> DiskFolder<'a, R> {
+    /// The folder that the runtime's files are in. No call of it has failed yet.
+    pub fn new(alloc: Global, files: &'a R) -> DiskFolder<'a, R>
+        ensures { disk_state result ≡ new_disk }
+    {
         DiskFolder {
             files,
             alloc,
@@ -47,7 +50,6 @@ impl<'a, R: Files> DiskFolder<'a, R> {
 
 impl<R: Files> Folder for DiskFolder<'_, R> {
     ghost use Rattle.zim_gate.specs.Folder.{Opens, Begins};
-    ghost use Rattle.zim_gate.specs.DiskFolder.{disk_state};
     ghost use Rattle.zim_gate.specs.Untold.{untold_folder-IsSound};
 
     ghost state = { disk_state };

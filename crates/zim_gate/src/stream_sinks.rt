@@ -1,3 +1,6 @@
+ghost use Rattle.std.specs.Prelude.{◌≡◌};
+ghost use Rattle.zim_gate.specs.StreamSink.{stream_state, new_stream};
+
 use crate::calls::one_more;
 use crate::sinks::Sink;
 use crate::stops::Failed;
@@ -12,16 +15,16 @@ pub struct StreamSink<W: Write + Drop> {
 }
 
 impl<W: Write + Drop> StreamSink<W> {
-    /// A sink that puts its pieces to the stream, each at once.
-    pub fn new(stream: W) -> StreamSink<W> {
+    /// A sink that puts its pieces to the stream, each at once. No put has failed yet.
+    pub fn new(stream: W) -> StreamSink<W>
+        ensures { stream_state result ≡ new_stream }
+    {
         StreamSink { stream, faults: 0 }
     }
 }
 
 impl<W: Write + Drop> Sink for StreamSink<W> {
-    ghost use Rattle.zim_gate.specs.Untold.{untold_sink};
-
-    ghost state = { λ sink. untold_sink sink.faults };
+    ghost state = { stream_state };
 
     fn put(&mut self, piece: &[u8]) -> Result<(), Failed> {
         match put_at_once(&mut self.stream, piece) {
