@@ -1,9 +1,8 @@
 -- Lines that have a first fault are the lines of no model.
-use Rattle.std.proofs.Common.{◌≡◌, ℕ, List, [], ◌∷◌, ◌++◌, map, Ok, Err, refl, sym, ◌∙◌, ap, subst}
+use Rattle.std.proofs.Common.{◌≡◌, List, [], ◌∷◌, ◌++◌, map, Ok, Err, refl, sym, ◌∙◌, ap, subst}
 use Rattle.zim_answer.specs.Answer.{Answer}
 use Rattle.zim_fault.specs.declared.faults.Fault.{Fault}
 use Rattle.zim_fault.specs.declared.faults.Place.{Place}
-use Rattle.zim_fault.specs.declared.kinds.Kind.{Kind}
 use Rattle.zim_fault.specs.declared.tokens.Placed.{Placed}
 use Rattle.zim_lex.specs.declared.lines.Line.{Line}
 use Rattle.zim_lex.specs.declared.lines.Span.{Span}
@@ -57,11 +56,11 @@ cut_twice placed other fault spans same e f = let h : ◌≡◌ {A = Answer (Lis
 pub same_spans : (placed other : List Placed) (spans more : List Span) → placed ≡ other → statements_of placed ≡ Ok spans → statements_of other ≡ Ok more → more ≡ spans
 same_spans placed other spans more same e f = let h : ◌≡◌ {A = Answer (List Span) Fault} (Ok spans) (Ok more) = sym e ∙ (ap statements_of same ∙ f) in cc
 
-pub breaks_spell_none : (lines : List Line) (kind : Kind) (line : ℕ) (model : Model) → LinesBreak lines kind line → LinesSpell lines model → ⊥
-breaks_spell_none lines _ _ model (stuck fault is) spell = stuck_without lines fault spell.placed is spell.tokens
-breaks_spell_none lines _ _ model (left_open placed fault are cut) spell =
+pub breaks_spell_none : (lines : List Line) (fault : Fault) (model : Model) → LinesBreak lines fault → LinesSpell lines model → ⊥
+breaks_spell_none lines _ model (stuck fault is) spell = stuck_without lines fault spell.placed is spell.tokens
+breaks_spell_none lines _ model (left_open placed fault are cut) spell =
     cut_twice placed spell.placed fault spell.spans (one_tokens lines placed spell.placed are spell.tokens) cut spell.cut
-breaks_spell_none lines _ _ model (broken placed spans place are cut breaks) spell =
+breaks_spell_none lines _ model (broken placed spans place are cut breaks) spell =
     let same : placed ≡ spell.placed = one_tokens lines placed spell.placed are spell.tokens in
     let cuts : spell.spans ≡ spans = same_spans placed spell.placed spans spell.spans same cut spell.cut in
     broken_without placed spans place model breaks

@@ -104,8 +104,8 @@ record HeldStop (IsPart : List ℕ → List ℕ → Type 0) (base : List ℕ) (t
 abbrev AllHeld : List ℕ → Option Files → Option Files → Texts → Type 0
 AllHeld base before now texts = now ≡ option_map (with_table base texts texts.table) before
 
-of_all : (Is Other : Texts → Type 0) (text : List ℕ) → ((texts : Texts) → Is texts → Other texts) → OfTexts Is text → OfTexts Other text
-of_all Is Other text then of = record { model = of.model; read = of.read; system = of.system; is_system = of.is_system; say = of.say; is = then _ of.is }
+of_all : (Is Other : Texts → Type 0) (files : Files) (name : List ℕ) → ((texts : Texts) → Is texts → Other texts) → OfTexts Is files name → OfTexts Other files name
+of_all Is Other files name then of = record { model = of.model; read = of.read; system = of.system; is_system = of.is_system; say = of.say; is = then _ of.is }
 
 -- parts of a table that end in its last line are the table
 abbrev PartsAreWhole : (List ℕ → List ℕ → Type 0) → Type 0
@@ -113,19 +113,19 @@ PartsAreWhole IsPart = (text front : List ℕ) (said : TableSaid) → table text
 
 stop_is_whole : (IsPart : List ℕ → List ℕ → Type 0) (base text : List ℕ) (output : Output) (before now : Option Files) (model : List ℕ) → PartsAreWhole IsPart → WhereTold before model (OfTexts (λ (texts : Texts). HeldStop IsPart base texts output before now)) → bytes_held now (output_name base Table) ≡ Some text → EndsInEnd text → (now ≡ before) ⊎ WhereTold before model (OfTexts (AllHeld base before now))
 stop_is_whole IsPart base text output None now model parts told at ends = inr tt
-stop_is_whole IsPart base text output (Some files) now model parts (source, there, of) at ends =
+stop_is_whole IsPart base text output (Some files) now model parts of at ends =
     by_files (left_whole IsPart base _ output of.is.change of.is.bytes files text (λ front is. parts _ front of.say.names of.say.table_reads is) of.is.at (sym (ap (λ (held : Option Files). bytes_held held (output_name base Table)) of.is.held) ∙ at) ends)
   where
     by_files : (of.is.change files ≡ files) ⊎ (of.is.change files ≡ with_table base (texts_of of.system) (texts_of of.system).table files) → (now ≡ Some files) ⊎ WhereTold (Some files) model (OfTexts (AllHeld base (Some files) now))
     by_files (inl same) = inl (of.is.held ∙ ap Some same)
-    by_files (inr whole) = inr (source, there, record { model = of.model; read = of.read; system = of.system; is_system = of.is_system; say = of.say; is = of.is.held ∙ ap Some whole })
+    by_files (inr whole) = inr (record { model = of.model; read = of.read; system = of.system; is_system = of.is_system; say = of.say; is = of.is.held ∙ ap Some whole })
 
 stopped_is_whole : (IsPart : List ℕ → List ℕ → Type 0) (before now : FolderState) (model base other over text : List ℕ) (output : Output) (job : Option Job) → PartsAreWhole IsPart → job ≡ Some (Compile other over) → job ≡ Some (Compile model base) → IsStopped IsPart before now other over output → bytes_held now.held (output_name base Table) ≡ Some text → EndsInEnd text → (now.held ≡ before.held) ⊎ HoldsAllFiles before now model base
 stopped_is_whole IsPart before now model base other over text output job parts f is stopped at ends =
     let same : IsStopped IsPart before now model base output = same_job (λ (m b : List ℕ). IsStopped IsPart before now m b output) job other over model base f is stopped in
     stop_is_whole IsPart base text output before.held now.held model parts
     (where_map before.held model _ _
-    (λ source. of_all (λ (texts : Texts). IsStoppedAt IsPart before now base texts output) (λ (texts : Texts). HeldStop IsPart base texts output before.held now.held) source
+    (λ files name. of_all (λ (texts : Texts). IsStoppedAt IsPart before now base texts output) (λ (texts : Texts). HeldStop IsPart base texts output before.held now.held) files name
     (λ texts s. record { change = s.change; bytes = s.bytes; at = s.at; held = s.makes.held }))
     same)
     at ends
@@ -136,8 +136,8 @@ no_part_is_whole text front said e is ends = absurd (not_empty front is ends)
 -- beside a table of this run that ends in its last line, the other files are whole
 pub ended_table : (job : Option Job) (before now : FolderState) (ending : Ending) → Ended job before now ending → EndedTableIsWhole job before now
 ended_table job before now _ (usage none same) model base text is at ends = inl (ap (λ (state : FolderState). state.held) same)
-ended_table job before now _ (refused other over kind line f why held) model base text is at ends = inl held.held
-ended_table job before now _ (unread other over f why held) model base text is at ends = inl held.held
+ended_table job before now _ (refused other over fault others f place why held) model base text is at ends = inl held.held
+ended_table job before now _ (unread other over name f why held) model base text is at ends = inl held.held
 ended_table job before now _ (unwritten other over output f rose stopped) model base text is at ends =
     stopped_is_whole IsFrontOf before now model base other over text output job front_is_whole f is stopped at ends
 ended_table job before now _ (no_memory held) model base text is at ends = inl held.held
@@ -146,5 +146,5 @@ ended_table job before now _ (no_memory_to_begin other over output f stopped) mo
 ended_table job before now _ (done other over f written) model base text is at ends =
     inr
     (where_map before.held model _ _
-    (λ source. of_all (λ (texts : Texts). Makes before now (with_table base texts texts.table) (both_lengths texts + length texts.table)) (AllHeld base before.held now.held) source (λ texts m. m.held))
+    (λ files name. of_all (λ (texts : Texts). Makes before now (with_table base texts texts.table) (both_lengths texts + length texts.table)) (AllHeld base before.held now.held) files name (λ texts m. m.held))
     (same_job (λ (m b : List ℕ). WhereTold before.held m (OfTexts (λ (texts : Texts). Makes before now (with_table b texts texts.table) (both_lengths texts + length texts.table)))) job other over model base f is written))

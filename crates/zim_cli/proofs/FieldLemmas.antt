@@ -1,6 +1,6 @@
 -- The names in a model are fields of a line.
 use Rattle.std.proofs.Common.{◌≡◌, ℕ, zero, suc, ◌<◌, Bool, true, false, List, [], ◌∷◌, ◌++◌, length, map, take, drop, Option, Some, None, refl, sym, ◌∙◌, ap, subst, arith, cond}
-use Rattle.std.specs.Prelude.{All, ⊤, ◌&&◌, not, IfSome, option_map}
+use Rattle.std.specs.Prelude.{All, ⊤, ◌&&◌, ◌==◌, not, IfSome, option_map}
 use Rattle.std.specs.Option.{option_or}
 use Rattle.std.specs.List.{AllByRecursion, list_all, flat_map}
 use Rattle.std.proofs.lemmas.Bool.Decides.{nat_tests}
@@ -15,8 +15,9 @@ use Rattle.zim_fault.specs.declared.tokens.Placed.{Placed}
 use Rattle.zim_fields.specs.Fields.{IsPlainByte, IsField}
 use Rattle.zim_lex.specs.declared.lines.Line.{Line}
 use Rattle.zim_lex.specs.declared.lines.Span.{Span}
-use Rattle.zim_lex.specs.Classes.{begins_name, continues_name}
-use Rattle.zim_lex.specs.Pieces.{is_word, is_name, is_number, token_of}
+use Rattle.zim_lex.specs.Classes.{begins_name, continues_name, first_is}
+use Rattle.zim_lex.specs.Numbers.{is_number, is_string}
+use Rattle.zim_lex.specs.Pieces.{is_word, is_name, between_quotes, token_of}
 use Rattle.zim_lex.specs.Spelled.{word_in, sign_in}
 use Rattle.zim_lex.specs.Tokens.{placed_token, tokens_at, AreTokens, none, more}
 use Rattle.zim_rows.specs.Finished.{program_of}
@@ -64,12 +65,17 @@ spelled_named None None t e = cc
 
 token_named : (piece : List ℕ) (t : Token) → token_of piece ≡ Some t → IsNamed t
 unfolding token_of
-token_named piece t e = by_name (is_name piece) (is_number piece) refl e
+token_named piece t e = by_class (is_name piece) (is_number piece) (is_string piece) refl e
   where
-    by_name : (a b : Bool) → is_name piece ≡ a → cond a (Some (token.Name piece)) (cond b (Some (token.Number piece)) (option_or (option_map token.Word (word_in piece)) (option_map token.Sign (sign_in piece)))) ≡ Some t → IsNamed t
-    by_name true b is h = let same : token.Name piece ≡ t = cc in subst IsNamed same (name_field piece is)
-    by_name false true is h = let same : token.Number piece ≡ t = cc in subst IsNamed same tt
-    by_name false false is h = spelled_named (word_in piece) (sign_in piece) t h
+    string : Token
+    string = token.Text (between_quotes piece) (first_is (λ (b : ℕ). b == 34) piece)
+
+    by_class : (a b c : Bool) → is_name piece ≡ a →
+        cond a (Some (token.Name piece)) (cond b (Some (token.Number piece)) (cond c (Some string) (option_or (option_map token.Word (word_in piece)) (option_map token.Sign (sign_in piece))))) ≡ Some t → IsNamed t
+    by_class true b c is h = let same : token.Name piece ≡ t = cc in subst IsNamed same (name_field piece is)
+    by_class false true c is h = let same : token.Number piece ≡ t = cc in subst IsNamed same tt
+    by_class false false true is h = let same : string ≡ t = cc in subst IsNamed same tt
+    by_class false false false is h = spelled_named (word_in piece) (sign_in piece) t h
 
 abbrev AreNamed : List Placed → Type 0
 AreNamed placed = AllByRecursion (λ (p : Placed). IsNamed p.token) placed

@@ -1,4 +1,4 @@
--- A text has one first fault at most, and that of a model has none.
+-- A named file has one first fault at most, a model has none, and neither misses a file.
 use Rattle.std.proofs.Common.{◌≡◌, ℕ, ◌<◌, List, [], ◌∷◌, ◌++◌, length, get_or, Ok, Err, inl, inr, refl, sym, ◌∙◌, ap, subst, arith}
 use Rattle.std.specs.Prelude.{◌⊎◌, All}
 use Rattle.std.specs.List.{AllByRecursion}
@@ -8,41 +8,54 @@ use Rattle.zim_answer.specs.Answer.{Answer}
 use Rattle.zim_fault.specs.declared.faults.Fault.{Fault}
 use Rattle.zim_fault.specs.declared.faults.Place.{Place}
 use Rattle.zim_fault.specs.declared.kinds.Kind.{Kind}
-use Rattle.zim_fault.specs.declared.kinds.Kind.TheVariants.{BadByte}
+use Rattle.zim_fault.specs.declared.kinds.Kind.TheVariants.{Syntax}
 use Rattle.zim_fault.specs.declared.tokens.Placed.{Placed}
+use Rattle.zim_gate.specs.Folder.{Files}
 use Rattle.zim_lex.specs.declared.lines.Line.{Line}
+use Rattle.zim_lex.specs.declared.lines.Loaded.{Loaded}
 use Rattle.zim_lex.specs.declared.lines.Span.{Span}
-use Rattle.zim_lex.specs.Cut.{IsStuck}
+use Rattle.zim_lex.specs.Cut.{IsStuck, cut}
+use Rattle.zim_lex.specs.Expanded.{Refusal, At, Missing, model_in}
 use Rattle.zim_lex.specs.Statements.{statements_of}
 use Rattle.zim_lex.specs.Tokens.{AreLineTokens, IsFirstStuck, here, later}
-use Rattle.zim_cli.specs.Lexed.{LinesBreak, stuck, left_open, broken}
+use Rattle.zim_cli.specs.Lexed.{LinesSpell, LinesBreak, stuck, left_open, broken}
 use Rattle.zim_cli.specs.PlainForm.{Model}
-use Rattle.zim_cli.specs.Reading.{HasModel, IsRefusedFor, too_long, not_plain}
+use Rattle.zim_cli.specs.Reading.{HasModel, IsRefusedFor, not_loaded, not_plain, MissesFile, HasOnlyAMissingFile}
 use Rattle.zim_cli.specs.Segments.{IsWithin, IsBroken}
 use Rattle.zim_cli.proofs.BreakLemmas.{breaks_spell_none, broken_without, cons_parts, cut_twice, same_spans}
-use Rattle.zim_cli.proofs.SpanLemmas.{spans_within}
+use Rattle.zim_cli.proofs.SpanLemmas.{spans_within, within_at}
 use Rattle.zim_cli.proofs.TokensLemmas.{one_tokens, stuck_line, stuck_without}
+use Rattle.zim_lex.proofs.CutLemmas.{is_stuck}
 
 -- ---- a byte that begins no piece
 
+-- a line is stuck in one way
+one_kind : (line : List ℕ) (kind other : Kind) → IsStuck line kind → IsStuck line other → kind ≡ other
+one_kind line kind other first second =
+    let one : cut line ≡ Err kind = is_stuck line kind first in
+    let two : cut line ≡ Err other = is_stuck line other second in
+    cc
+
 -- the first line is stuck, or it has tokens and a later one is
-stuck_parts : (line : Line) (lines : List Line) (fault : Fault) → IsFirstStuck (line ∷ lines) fault →
-    (IsStuck line.bytes × (fault ≡ record { place = line.place; kind = BadByte })) ⊎ ((tokens : List Placed) × AreLineTokens line tokens × IsFirstStuck lines fault)
-stuck_parts line lines _ (here _ _ now) = inl (now, refl)
+abbrev StuckParts : Line → List Line → Fault → Type 0
+StuckParts line lines fault =
+    ((kind : Kind) × IsStuck line.bytes kind × (fault ≡ record { place = line.place; kind = kind })) ⊎ ((tokens : List Placed) × AreLineTokens line tokens × IsFirstStuck lines fault)
+
+stuck_parts : (line : Line) (lines : List Line) (fault : Fault) → IsFirstStuck (line ∷ lines) fault → StuckParts line lines fault
+stuck_parts line lines _ (here _ _ kind now) = inl (kind, now, refl)
 stuck_parts line lines _ (later _ _ tokens fault are after) = inr (tokens, are, after)
 
 one_after : (line : Line) (lines : List Line) (first : List Placed) (fault other : Fault) → AreLineTokens line first → (IsFirstStuck lines other → fault ≡ other) →
-    (IsStuck line.bytes × (other ≡ record { place = line.place; kind = BadByte })) ⊎ ((tokens : List Placed) × AreLineTokens line tokens × IsFirstStuck lines other) → fault ≡ other
-one_after line lines first fault other at one (inl (now, is)) = absurd (stuck_line line first now at)
+    StuckParts line lines other → fault ≡ other
+one_after line lines first fault other at one (inl (kind, now, is)) = absurd (stuck_line line first kind now at)
 one_after line lines first fault other at one (inr (tokens, are, after)) = one after
 
-one_now : (line : Line) (lines : List Line) (other : Fault) → IsStuck line.bytes →
-    (IsStuck line.bytes × (other ≡ record { place = line.place; kind = BadByte })) ⊎ ((tokens : List Placed) × AreLineTokens line tokens × IsFirstStuck lines other) → record { place = line.place; kind = BadByte } ≡ other
-one_now line lines other now (inl (too, is)) = sym is
-one_now line lines other now (inr (tokens, are, after)) = absurd (stuck_line line tokens now are)
+one_now : (line : Line) (lines : List Line) (kind : Kind) (other : Fault) → IsStuck line.bytes kind → StuckParts line lines other → record { place = line.place; kind = kind } ≡ other
+one_now line lines kind other now (inl (met, too, is)) = ap (λ (k : Kind). record { place = line.place; kind = k }) (one_kind line.bytes kind met now too) ∙ sym is
+one_now line lines kind other now (inr (tokens, are, after)) = absurd (stuck_line line tokens kind now are)
 
 one_stuck : (lines : List Line) (fault other : Fault) → IsFirstStuck lines fault → IsFirstStuck lines other → fault ≡ other
-one_stuck _ _ other (here line lines now) second = one_now line lines other now (stuck_parts line lines other second)
+one_stuck _ _ other (here line lines kind now) second = one_now line lines kind other now (stuck_parts line lines other second)
 one_stuck _ _ other (later line lines first fault at after) second =
     one_after line lines first fault other at (λ more. one_stuck lines fault other after more) (stuck_parts line lines other second)
 
@@ -87,10 +100,6 @@ no_sooner placed spans place other rest a b is =
     b.spelled
     b.plain
 
-within_at : (n : ℕ) (before : List Span) (span : Span) (after : List Span) → AllByRecursion (IsWithin n) (before ++ span ∷ after) → IsWithin n span
-within_at n [] span after h = h.0
-within_at n (x ∷ before) span after h = within_at n before span after h.1
-
 one_place : (placed : List Placed) (spans : List Span) (place other : Place) (a : IsBroken placed spans place) (b : IsBroken placed spans other) → All (IsWithin (length placed)) spans → a.span ≡ b.span → place ≡ other
 one_place placed spans place other a b within same =
     let at : IsWithin (length placed) a.span =
@@ -124,34 +133,71 @@ one_broken placed spans place other_placed other_spans other same cut other_cut 
     one_break placed spans place other (spans_within placed spans cut) a
     (subst (λ (ps : List Placed). IsBroken ps spans other) (sym same) (subst (λ (ss : List Span). IsBroken other_placed ss other) cuts b))
 
--- the kind and the line of a first fault are those of another one
-abbrev IsSame : Kind → ℕ → Kind → ℕ → Type 0
-IsSame kind line other over = (kind ≡ other) × (line ≡ over)
-
-one_line_fault : (lines : List Line) (kind other : Kind) (line over : ℕ) → LinesBreak lines kind line → LinesBreak lines other over → IsSame kind line other over
-one_line_fault lines _ _ _ _ (stuck fault is) (stuck more at) = (refl, ap (λ (f : Fault). f.place.line) (one_stuck lines fault more is at))
-one_line_fault lines _ _ _ _ (stuck fault is) (left_open placed more are cut) = absurd (stuck_without lines fault placed is are)
-one_line_fault lines _ _ _ _ (stuck fault is) (broken placed spans place are cut breaks) = absurd (stuck_without lines fault placed is are)
-one_line_fault lines _ _ _ _ (left_open placed fault are cut) (stuck more at) = absurd (stuck_without lines more placed at are)
-one_line_fault lines _ _ _ _ (left_open placed fault are cut) (left_open others more too also) =
-    (refl, ap (λ (f : Fault). f.place.line) (same_fault placed others fault more (one_tokens lines placed others are too) cut also))
-one_line_fault lines _ _ _ _ (left_open placed fault are cut) (broken others spans place too also breaks) =
+one_line_fault : (lines : List Line) (fault other : Fault) → LinesBreak lines fault → LinesBreak lines other → fault ≡ other
+one_line_fault lines _ _ (stuck fault is) (stuck more at) = one_stuck lines fault more is at
+one_line_fault lines _ _ (stuck fault is) (left_open placed more are cut) = absurd (stuck_without lines fault placed is are)
+one_line_fault lines _ _ (stuck fault is) (broken placed spans place are cut breaks) = absurd (stuck_without lines fault placed is are)
+one_line_fault lines _ _ (left_open placed fault are cut) (stuck more at) = absurd (stuck_without lines more placed at are)
+one_line_fault lines _ _ (left_open placed fault are cut) (left_open others more too also) = same_fault placed others fault more (one_tokens lines placed others are too) cut also
+one_line_fault lines _ _ (left_open placed fault are cut) (broken others spans place too also breaks) =
     absurd (cut_twice placed others fault spans (one_tokens lines placed others are too) cut also)
-one_line_fault lines _ _ _ _ (broken placed spans place are cut breaks) (stuck more at) = absurd (stuck_without lines more placed at are)
-one_line_fault lines _ _ _ _ (broken placed spans place are cut breaks) (left_open others more too also) =
+one_line_fault lines _ _ (broken placed spans place are cut breaks) (stuck more at) = absurd (stuck_without lines more placed at are)
+one_line_fault lines _ _ (broken placed spans place are cut breaks) (left_open others more too also) =
     absurd (cut_twice others placed more spans (one_tokens lines others placed too are) also cut)
-one_line_fault lines _ _ _ _ (broken placed spans place are cut breaks) (broken others parts over too also break) =
-    (refl, ap (λ (p : Place). p.line) (one_broken placed spans place others parts over (one_tokens lines placed others are too) cut also breaks break))
+one_line_fault lines _ _ (broken placed spans place are cut breaks) (broken others parts over too also break) =
+    ap (λ (p : Place). record { place = p; kind = Syntax }) (one_broken placed spans place others parts over (one_tokens lines placed others are too) cut also breaks break)
 
--- ---- texts
+-- ---- named files
 
--- a text that is refused is no model
-pub not_refused : (text : List ℕ) (kind : Kind) (line : ℕ) (model : Model) → IsRefusedFor text kind line → HasModel text model → ⊥
-not_refused text _ _ model (too_long _ long) has = omega (arith, has.short)
-not_refused text _ _ model (not_plain _ kind line short breaks) has = breaks_spell_none _ kind line model breaks has.spell
+-- a name has one load
+abbrev Loading : Type 0
+Loading = Answer Loaded Refusal
 
-pub one_fault : (text : List ℕ) (kind other : Kind) (line over : ℕ) → IsRefusedFor text kind line → IsRefusedFor text other over → IsSame kind line other over
-one_fault text _ _ _ _ (too_long _ long) (too_long _ more) = (refl, refl)
-one_fault text _ _ _ _ (too_long _ long) (not_plain _ other over short breaks) = absurd (omega (arith, long, short))
-one_fault text _ _ _ _ (not_plain _ kind line short breaks) (too_long _ long) = absurd (omega (arith, long, short))
-one_fault text _ _ _ _ (not_plain _ kind line short breaks) (not_plain _ other over low more) = one_line_fault _ kind other line over breaks more
+pub one_loaded : (load : Loading) (loaded other : Loaded) → load ≡ Ok loaded → load ≡ Ok other → loaded ≡ other
+one_loaded load loaded other e f = cc
+
+loaded_at : (load : Loading) (loaded : Loaded) (fault : Fault) (opened : List (List ℕ)) → load ≡ Ok loaded → load ≡ Err (At fault opened) → ⊥
+loaded_at load loaded fault opened e f = cc
+
+loaded_missing : (load : Loading) (loaded : Loaded) (name : List ℕ) (opened : List (List ℕ)) → load ≡ Ok loaded → load ≡ Err (Missing name opened) → ⊥
+loaded_missing load loaded name opened e f = cc
+
+at_missing : (load : Loading) (fault : Fault) (opened : List (List ℕ)) (name : List ℕ) (others : List (List ℕ)) → load ≡ Err (At fault opened) → load ≡ Err (Missing name others) → ⊥
+at_missing load fault opened name others e f = cc
+
+-- a name that is refused is no model
+pub not_refused : (files : Files) (name : List ℕ) (fault : Fault) (opened : List (List ℕ)) (model : Model) → IsRefusedFor files name fault opened → HasModel files name model → ⊥
+not_refused files name _ _ model (not_loaded fault opened is) has = loaded_at (model_in files name) has.loaded fault opened has.loads is
+not_refused files name _ _ model (not_plain loaded fault is breaks) has =
+    let same : has.loaded ≡ loaded = one_loaded (model_in files name) has.loaded loaded has.loads is in
+    breaks_spell_none loaded.lines fault model breaks (subst (λ (l : Loaded). LinesSpell l.lines model) same has.spell)
+
+-- what two first faults of a name have in common
+abbrev IsSame : Fault → List (List ℕ) → Fault → List (List ℕ) → Type 0
+IsSame fault opened other others = (fault ≡ other) × (opened ≡ others)
+
+one_refusal : (load : Loading) (fault other : Fault) (opened others : List (List ℕ)) → load ≡ Err (At fault opened) → load ≡ Err (At other others) → IsSame fault opened other others
+one_refusal load fault other opened others e f = (cc, cc)
+
+pub one_fault : (files : Files) (name : List ℕ) (fault other : Fault) (opened others : List (List ℕ)) → IsRefusedFor files name fault opened → IsRefusedFor files name other others → IsSame fault opened other others
+one_fault files name _ _ _ _ (not_loaded fault opened is) (not_loaded other others at) = one_refusal (model_in files name) fault other opened others is at
+one_fault files name _ _ _ _ (not_loaded fault opened is) (not_plain loaded other at breaks) = absurd (loaded_at (model_in files name) loaded fault opened at is)
+one_fault files name _ _ _ _ (not_plain loaded fault is breaks) (not_loaded other opened at) = absurd (loaded_at (model_in files name) loaded other opened is at)
+one_fault files name _ _ _ _ (not_plain loaded fault is breaks) (not_plain more other at break) =
+    let same : more ≡ loaded = one_loaded (model_in files name) more loaded at is in
+    (one_line_fault loaded.lines fault other breaks (subst (λ (l : Loaded). LinesBreak l.lines other) same break), ap (λ (l : Loaded). l.files) (sym same))
+
+missing_unrefused : (files : Files) (name : List ℕ) (fault : Fault) (opened : List (List ℕ)) (missing : List ℕ) (others : List (List ℕ)) → model_in files name ≡ Err (Missing missing others) → IsRefusedFor files name fault opened → ⊥
+missing_unrefused files name _ _ missing others e (not_loaded fault opened is) = at_missing (model_in files name) fault opened missing others is e
+missing_unrefused files name _ _ missing others e (not_plain loaded fault is breaks) = loaded_missing (model_in files name) loaded missing others is e
+
+one_missing : (load : Loading) (other missing : List ℕ) (opened others : List (List ℕ)) → load ≡ Err (Missing other opened) → load ≡ Err (Missing missing others) → other ≡ missing
+one_missing load other missing opened others e f = cc
+
+-- a name that misses a file is no model, has no fault and misses no other file
+pub only_missing : (files : Files) (name missing : List ℕ) → MissesFile files name missing → HasOnlyAMissingFile files name missing
+only_missing files name missing misses = record {
+  no_model = λ model has. loaded_missing (model_in files name) has.loaded missing misses.files has.loads misses.met;
+  no_fault = λ fault opened refused. missing_unrefused files name fault opened missing misses.files misses.met refused;
+  one = λ other also. one_missing (model_in files name) other missing also.files misses.files also.met misses.met;
+}

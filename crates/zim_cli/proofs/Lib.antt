@@ -14,6 +14,7 @@ mod AtPlace
 mod BreakLemmas
 mod CompileLemmas
 mod EndedTable
+mod FaultPlaces
 mod FieldLemmas
 mod SpanLemmas
 mod FirstFaultLemmas

@@ -1,5 +1,5 @@
 -- How a compilation and the writing of its files end a run.
-use Rattle.std.proofs.Common.{◌≡◌, ℕ, List, Option, None, Some, option_map, Result, Ok, Err, refl, sym, ◌∙◌, ap, subst, IfOk}
+use Rattle.std.proofs.Common.{◌≡◌, ℕ, List, ◌∷◌, Option, None, Some, option_map, Result, Ok, Err, refl, sym, ◌∙◌, ap, subst, IfOk, IfErr}
 use Rattle.std.specs.Prelude.{⊤, ◌+◌, length}
 use Rattle.zim_gate.specs.Counts.{Rose, count_on, IsFrontOf}
 use Rattle.zim_gate.specs.Folder.{FolderState, Files}
@@ -19,7 +19,7 @@ use Rattle.zim_cli.specs.declared.ending.Ending.TheVariants as ending
 use Rattle.zim_cli.specs.declared.jobs.Job.{Job}
 use Rattle.zim_cli.specs.declared.jobs.Job.TheVariants.{Compile}
 use Rattle.zim_cli.specs.Compile.{WhereTold, HasSystem, Makes, made, refused, unread, no_memory, Compiles}
-use Rattle.zim_cli.specs.Ending.{ending_of_writing}
+use Rattle.zim_cli.specs.Ending.{IsReportable, ending_of_writing}
 use Rattle.zim_cli.specs.Outputs as outputs
 use Rattle.zim_cli.specs.Outputs.{AreNamesOf, name_in, output_name, Texts, both_lengths, texts_of, with_table, IsEmptyFrontOf, IsStoppedAt, WritesAll}
 use Rattle.zim_cli.specs.WriteFile.{KeepsFiles}
@@ -29,22 +29,22 @@ use Rattle.zim_cli.proofs.CompileLemmas.{where_map}
 use Rattle.zim_cli.proofs.FilesOfLemmas.{files_of_system}
 
 -- a compilation that stopped ends the run
-stops_early : (before now : FolderState) (model base : List ℕ) (r : Result PlainModel Ending) (e : Ending) → r ≡ Err e → Makes before now model r → KeepsFiles before now →
+stops_early : (before now : FolderState) (model base : List ℕ) (r : Result PlainModel Ending) (e : Ending) → r ≡ Err e → Makes before now model r → IfErr r IsReportable → KeepsFiles before now →
     Ended (Some (Compile model base)) before now e
-stops_early before now model base _ e is (made plain told listed) held = absurd (cc)
-stops_early before now model base _ e is (refused kind line why) held =
-    let same : ending.Refused _ _ ≡ e = cc in
-    subst (λ (x : Ending). Ended (Some (Compile model base)) before now x) same (run.refused model base kind line refl why held)
-stops_early before now model base _ e is (unread why) held =
-    let same : ending.Unread model ≡ e = cc in
-    subst (λ (x : Ending). Ended (Some (Compile model base)) before now x) same (run.unread model base refl why held)
-stops_early before now model base _ e is no_memory held =
+stops_early before now model base _ e is (made plain told listed) place held = absurd (cc)
+stops_early before now model base _ e is (refused fault others why) place held =
+    let same : ending.Refused fault (model ∷ others) ≡ e = cc in
+    subst (λ (x : Ending). Ended (Some (Compile model base)) before now x) same (run.refused model base fault others refl place why held)
+stops_early before now model base _ e is (unread name why) place held =
+    let same : ending.Unread name ≡ e = cc in
+    subst (λ (x : Ending). Ended (Some (Compile model base)) before now x) same (run.unread model base name refl why held)
+stops_early before now model base _ e is no_memory place held =
     let same : ending.Memory ≡ e = cc in
     subst (λ (x : Ending). Ended (Some (Compile model base)) before now x) same (run.no_memory held)
 
 pub compile_stopped : (before now : FolderState) (model base : List ℕ) (r : Result PlainModel Ending) (e : Ending) → r ≡ Err e → Compiles before now model r →
     Ended (Some (Compile model base)) before now e
-compile_stopped before now model base r e is compiles = stops_early before now model base r e is compiles.makes compiles.keeps
+compile_stopped before now model base r e is compiles = stops_early before now model base r e is compiles.makes compiles.reportable compiles.keeps
 
 -- memory was refused between the compilation and the writing
 pub name_refused : (before now : FolderState) (model base : List ℕ) (r : Result PlainModel Ending) → Compiles before now model r → Ended (Some (Compile model base)) before now ending.Memory
@@ -68,16 +68,16 @@ made_from before between model _ plain is (made other told listed) held faults =
       write_faults = faults;
       told = told;
     })
-made_from before between model _ plain is (refused kind line why) held faults = absurd (cc)
-made_from before between model _ plain is (unread why) held faults = absurd (cc)
+made_from before between model _ plain is (refused fault others why) held faults = absurd (cc)
+made_from before between model _ plain is (unread name why) held faults = absurd (cc)
 made_from before between model _ plain is no_memory held faults = absurd (cc)
 
 pub made_by : (before between : FolderState) (model : List ℕ) (r : Result PlainModel Ending) (plain : PlainModel) → r ≡ Ok plain → Compiles before between model r → Made before between model plain
 made_by before between model r plain is compiles = made_from before between model r plain is compiles.makes compiles.keeps compiles.write_faults
 
--- what is so of the texts of the system is so of the files of the model's text
-of_texts : (read : PlainModel) (Is : Texts → Type 0) → CanBeListed (program_of read.system) read.variables read.names → Is (texts_of read) → (text : List ℕ) → HasSystem read text → OfTexts Is text
-of_texts read Is listed is text has = record {
+-- what is so of the texts of the system is so of the files of the model
+of_texts : (read : PlainModel) (Is : Texts → Type 0) → CanBeListed (program_of read.system) read.variables read.names → Is (texts_of read) → (files : Files) (name : List ℕ) → HasSystem read files name → OfTexts Is files name
+of_texts read Is listed is files name has = record {
   model = has.model;
   read = has.read;
   system = read;

@@ -1,5 +1,5 @@
 -- The spans of statements lie among the tokens.
-use Rattle.std.proofs.Common.{◌≡◌, ℕ, zero, ◌+◌, ◌≤◌, Bool, true, false, cond, List, [], ◌∷◌, length, Ok, Err, refl, sym, ◌∙◌, subst, arith}
+use Rattle.std.proofs.Common.{◌≡◌, ℕ, zero, ◌+◌, ◌≤◌, Bool, true, false, cond, List, [], ◌∷◌, ◌++◌, length, Ok, Err, refl, sym, ◌∙◌, subst, arith}
 use Rattle.std.specs.Prelude.{All}
 use Rattle.std.specs.List.{AllByRecursion, slice_split, onto_first}
 use Rattle.std.proofs.lemmas.List.Elements.{All-from_recursion}
@@ -27,7 +27,7 @@ total_split (x ∷ xs) = by_end (ends_statement x) (total_split xs)
     by_end true h = omega (arith, h)
     by_end false h = omega (arith, total_onto x (slice_split ends_statement xs) (length xs) h)
 
-from-more : (at : ℕ) (part next : List Placed) (parts : List (List Placed)) → spans_from at (part ∷ next ∷ parts) ≡ (spans_from (at + length part + 1) (next ∷ parts) >>= λ spans. Ok (record { from = at; to = at + length part + 1 } ∷ spans))
+pub from-more : (at : ℕ) (part next : List Placed) (parts : List (List Placed)) → spans_from at (part ∷ next ∷ parts) ≡ (spans_from (at + length part + 1) (next ∷ parts) >>= λ spans. Ok (record { from = at; to = at + length part + 1 } ∷ spans))
 from-more at [] next parts = refl
 from-more at (left ∷ more) next parts = refl
 
@@ -53,3 +53,7 @@ pub spans_within : (placed : List Placed) (spans : List Span) → statements_of 
 unfolding statements_of
 spans_within placed spans e =
     All-from_recursion (IsWithin (length placed)) spans (within_from 0 (slice_split ends_statement placed) spans (length placed) e (omega (arith, total_split placed)))
+
+pub within_at : (n : ℕ) (before : List Span) (span : Span) (after : List Span) → AllByRecursion (IsWithin n) (before ++ span ∷ after) → IsWithin n span
+within_at n [] span after h = h.0
+within_at n (x ∷ before) span after h = within_at n before span after h.1

@@ -1,7 +1,7 @@
 -- Lines have the tokens of one list at most, and none where a line is stuck.
 use Rattle.std.proofs.Common.{◌≡◌, ℕ, List, [], ◌∷◌, ◌++◌, Ok, Err, refl, ap, sym, ◌∙◌}
 use Rattle.zim_fault.specs.declared.faults.Fault.{Fault}
-use Rattle.zim_fault.specs.declared.kinds.Kind.TheVariants.{BadByte}
+use Rattle.zim_fault.specs.declared.kinds.Kind.{Kind}
 use Rattle.zim_fault.specs.declared.tokens.Placed.{Placed}
 use Rattle.zim_lex.specs.declared.lines.Line.{Line}
 use Rattle.zim_lex.specs.Cut.{IsStuck, cut}
@@ -37,15 +37,15 @@ one_tokens _ _ b (more line lines first others at rest) second =
     ∙ ap (λ (back : List Placed). p.first ++ back) (one_tokens lines others p.others rest p.of_lines)
     ∙ sym p.whole
 
-pub stuck_line : (line : Line) (tokens : List Placed) → IsStuck line.bytes → AreLineTokens line tokens → ⊥
-stuck_line line tokens stuck are =
-    let one : cut line.bytes ≡ Err BadByte = is_stuck line.bytes stuck in
+pub stuck_line : (line : Line) (tokens : List Placed) (kind : Kind) → IsStuck line.bytes kind → AreLineTokens line tokens → ⊥
+stuck_line line tokens kind stuck are =
+    let one : cut line.bytes ≡ Err kind = is_stuck line.bytes kind stuck in
     let other : cut line.bytes ≡ Ok are.pieces = is_cut are.pieces line.bytes are.cut in
     cc
 
 -- lines of which one is stuck have no tokens
 pub stuck_without : (lines : List Line) (fault : Fault) (tokens : List Placed) → IsFirstStuck lines fault → AreTokens lines tokens → ⊥
-stuck_without _ _ tokens (here line lines stuck) are =
-    let p : Parts line lines tokens = parts line lines tokens are in stuck_line line p.first stuck p.of_line
+stuck_without _ _ tokens (here line lines kind stuck) are =
+    let p : Parts line lines tokens = parts line lines tokens are in stuck_line line p.first kind stuck p.of_line
 stuck_without _ _ tokens (later line lines first fault at stuck) are =
     let p : Parts line lines tokens = parts line lines tokens are in stuck_without lines fault p.others stuck p.of_lines

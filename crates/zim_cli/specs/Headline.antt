@@ -1,9 +1,9 @@
 -- What a run promises: how it ended, what its line is, and which endings must come.
 use Rattle.std.specs.Prelude.{◌≡◌, ℕ, ◌⊎◌, List, Option, Some, None, option_map}
 use Rattle.zim_gate.specs.Counts.{Rose}
-use Rattle.zim_gate.specs.Folder.{FolderState, bytes_held}
+use Rattle.zim_gate.specs.Folder.{FolderState, Files, bytes_held}
 use Rattle.zim_gate.specs.Sink.{SinkState}
-use Rattle.zim_fault.specs.declared.kinds.Kind.{Kind}
+use Rattle.zim_fault.specs.declared.faults.Fault.{Fault}
 use Rattle.zim_cli.specs.declared.ending.Ending.{Ending}
 use Rattle.zim_cli.specs.declared.jobs.Job.{Job}
 use Rattle.zim_cli.specs.declared.jobs.Job.TheVariants.{Compile}
@@ -11,10 +11,10 @@ use Rattle.zim_cli.specs.declared.status.Status.{Status}
 use Rattle.zim_cli.specs.declared.status.Status.TheVariants as status
 use Rattle.zim_table.specs.Ended.{EndsInEnd}
 use Rattle.zim_cli.specs.declared.outputs.Output.TheVariants.{Table}
-use Rattle.zim_cli.specs.Compile.{IsToldMissing, WhereTold}
+use Rattle.zim_cli.specs.Compile.{WhereTold}
 use Rattle.zim_cli.specs.Ending.{status_of, line_of, TakesLine}
 use Rattle.zim_cli.specs.PlainForm.{Model}
-use Rattle.zim_cli.specs.Reading.{HasModel, IsRefusedFor}
+use Rattle.zim_cli.specs.Reading.{HasModel, IsRefusedFor, MissesFile}
 use Rattle.zim_cli.specs.Outputs.{output_name, with_table}
 use Rattle.zim_cli.specs.Run.{Ended, OfTexts}
 
@@ -38,23 +38,25 @@ IsUnlessMemory wanted result = (result ≡ wanted) ⊎ (result ≡ status.Memory
 abbrev pub MustBeUsage : Option Job → Status → Type 0
 MustBeUsage job result = job ≡ None → IsUnlessMemory status.Usage result
 
--- A model that is held is done, where its text has no fault and nothing failed.
+-- A model is done, where it misses no file and has no fault, and nothing failed.
 abbrev pub MustBeDone : Option Job → FolderState → FolderState → Status → Type 0
 MustBeDone job before now result =
-    (model base text : List ℕ) → job ≡ Some (Compile model base) → bytes_held before.held model ≡ Some text →
-    ((kind : Kind) (line : ℕ) → ¬ IsRefusedFor text kind line) → NothingRose before now → IsUnlessMemory status.Done result
+    (model base : List ℕ) (files : Files) → job ≡ Some (Compile model base) → before.held ≡ Some files →
+    ((name : List ℕ) → ¬ MissesFile files model name) → ((fault : Fault) (opened : List (List ℕ)) → ¬ IsRefusedFor files model fault opened) →
+    NothingRose before now → IsUnlessMemory status.Done result
 
--- A text that is held and is no model is refused, where nothing failed.
+-- What misses no file and is no model is refused, where nothing failed.
 abbrev pub MustBeRefused : Option Job → FolderState → FolderState → Status → Type 0
 MustBeRefused job before now result =
-    (model base text : List ℕ) → job ≡ Some (Compile model base) → bytes_held before.held model ≡ Some text →
-    ((read : Model) → ¬ HasModel text read) → NothingRose before now → IsUnlessMemory status.Refused result
+    (model base : List ℕ) (files : Files) → job ≡ Some (Compile model base) → before.held ≡ Some files →
+    ((name : List ℕ) → ¬ MissesFile files model name) → ((read : Model) → ¬ HasModel files model read) →
+    NothingRose before now → IsUnlessMemory status.Refused result
 
--- A model that a folder tells not to hold is a read fault, where nothing failed.
-abbrev pub MustBeReadFault : Option Job → FolderState → FolderState → Status → Type 0
-MustBeReadFault job before now result =
-    (model base : List ℕ) → job ≡ Some (Compile model base) → IsToldMissing before.held model →
-    NothingRose before now → IsUnlessMemory status.ReadFault result
+-- What misses a file is a read fault, whatever failed.
+abbrev pub MustBeReadFault : Option Job → FolderState → Status → Type 0
+MustBeReadFault job before result =
+    (model base name : List ℕ) (files : Files) → job ≡ Some (Compile model base) → before.held ≡ Some files →
+    MissesFile files model name → IsUnlessMemory status.ReadFault result
 
 -- The three files of the model that was held before are written whole, and every other file is as before.
 abbrev pub HoldsAllFiles : FolderState → FolderState → List ℕ → List ℕ → Type 0

@@ -1,9 +1,8 @@
 -- The model that lines are, or the first fault that they have.
-use Rattle.std.specs.Prelude.{◌≡◌, ℕ, List, Result, Ok, Err}
+use Rattle.std.specs.Prelude.{◌≡◌, List, Result, Ok, Err}
 use Rattle.zim_fault.specs.declared.faults.Fault.{Fault}
 use Rattle.zim_fault.specs.declared.faults.Place.{Place}
-use Rattle.zim_fault.specs.declared.kinds.Kind.{Kind}
-use Rattle.zim_fault.specs.declared.kinds.Kind.TheVariants.{Syntax, OpenStatement}
+use Rattle.zim_fault.specs.declared.kinds.Kind.TheVariants.{Syntax}
 use Rattle.zim_fault.specs.declared.tokens.Placed.{Placed}
 use Rattle.zim_lex.specs.declared.lines.Line.{Line}
 use Rattle.zim_lex.specs.declared.lines.Span.{Span}
@@ -25,13 +24,13 @@ pub record LinesSpell (lines : List Line) (model : Model) : Type 0 where
   pub spelled : Spell placed spans model
   pub plain : IsPlain model
 
--- The first fault of lines, with its line: a byte that begins no piece; else tokens that no semicolon ends; else a statement that
--- breaks plain form.
-pub data LinesBreak (lines : List Line) : Kind → ℕ → Type 0 where
-  stuck : (fault : Fault) → IsFirstStuck lines fault → LinesBreak lines Syntax fault.place.line
-  left_open : (placed : List Placed) (fault : Fault) → AreTokens lines placed → statements_of placed ≡ Err fault → LinesBreak lines OpenStatement fault.place.line
+-- The first fault of lines: a byte that begins no piece, an unclosed quote among them; else tokens that no semicolon ends; else a
+-- statement that breaks plain form, at its first token.
+pub data LinesBreak (lines : List Line) : Fault → Type 0 where
+  stuck : (fault : Fault) → IsFirstStuck lines fault → LinesBreak lines fault
+  left_open : (placed : List Placed) (fault : Fault) → AreTokens lines placed → statements_of placed ≡ Err fault → LinesBreak lines fault
   broken : (placed : List Placed) (spans : List Span) (place : Place) → AreTokens lines placed → statements_of placed ≡ Ok spans →
-      IsBroken placed spans place → LinesBreak lines Syntax place.line
+      IsBroken placed spans place → LinesBreak lines (record { place = place; kind = Syntax })
 
 -- The lines spell a model, whose system this is.
 pub record LinesParseTo (lines : List Line) (read : PlainModel) : Type 0 where
@@ -42,5 +41,5 @@ pub record LinesParseTo (lines : List Line) (read : PlainModel) : Type 0 where
 -- The lines were read as a model, or they have a first fault, or memory was refused.
 abbrev pub LinesAnswer : List Line → Result PlainModel ReadStop → Type 0
 LinesAnswer lines (Ok read) = LinesParseTo lines read
-LinesAnswer lines (Err (reading.Refused kind line)) = LinesBreak lines kind line
+LinesAnswer lines (Err (reading.Refused fault)) = LinesBreak lines fault
 LinesAnswer lines (Err reading.Memory) = Unit {0}

@@ -1,31 +1,45 @@
--- The model that a file's bytes are, and the first fault of bytes that are none.
-use Rattle.std.specs.Prelude.{◌≡◌, ℕ, ◌<◌, ◌≤◌, List, length}
-use Rattle.zim_fault.specs.declared.kinds.Kind.{Kind}
-use Rattle.zim_fault.specs.declared.kinds.Kind.TheVariants.{LongFile}
-use Rattle.zim_lex.specs.Lines.{most_bytes, lines_of, line_of_byte, placed_lines}
+-- The model that a name stands for among some files, the first fault of what is no model, and the file that isn't there.
+use Rattle.std.specs.Prelude.{◌≡◌, ℕ, List, Ok, Err}
+use Rattle.zim_fault.specs.declared.faults.Fault.{Fault}
+use Rattle.zim_gate.specs.Folder.{Files}
+use Rattle.zim_lex.specs.declared.lines.Loaded.{Loaded}
+use Rattle.zim_lex.specs.Expanded.{At, model_in}
+use Rattle.zim_lex.specs.Unread.{MeetsMissing}
 use Rattle.zim_cli.specs.Lexed.{LinesSpell, LinesBreak}
 use Rattle.zim_cli.specs.PlainForm.{Model}
 
--- The bytes are not too many, and their lines spell a model of plain form.
-pub record HasModel (text : List ℕ) (model : Model) : Type 0 where
-  pub short : length text ≤ most_bytes
-  pub spell : LinesSpell (placed_lines 0 1 (lines_of text)) model
+-- The lines of the named file, with the lines of the files that it includes in their places, spell a model of plain form.
+pub record HasModel (files : Files) (name : List ℕ) (model : Model) : Type 0 where
+  pub loaded : Loaded
+  pub loads : model_in files name ≡ Ok loaded
+  pub spell : LinesSpell loaded.lines model
 
--- No text is two models.
-abbrev pub HasOneModel : List ℕ → Type 0
-HasOneModel text = (one other : Model) → HasModel text one → HasModel text other → one ≡ other
+-- The first fault of a named file that is no model, with the names of the opened files among which the fault's place counts: a
+-- fault of loading, which is too many bytes or too deep an include line; else the first fault of the lines.
+pub data IsRefusedFor (files : Files) (name : List ℕ) : Fault → List (List ℕ) → Type 0 where
+  not_loaded : (fault : Fault) (opened : List (List ℕ)) → model_in files name ≡ Err (At fault opened) → IsRefusedFor files name fault opened
+  not_plain : (loaded : Loaded) (fault : Fault) → model_in files name ≡ Ok loaded → LinesBreak loaded.lines fault →
+      IsRefusedFor files name fault loaded.files
 
--- The first fault of bytes that are no model, with its line: there are too many of them, at the line of the first one past the
--- limit; else the first fault of their lines.
-pub data IsRefusedFor : List ℕ → Kind → ℕ → Type 0 where
-  too_long : (text : List ℕ) → most_bytes < length text → IsRefusedFor text LongFile (line_of_byte text most_bytes)
-  not_plain : (text : List ℕ) (kind : Kind) (line : ℕ) → length text ≤ most_bytes → LinesBreak (placed_lines 0 1 (lines_of text)) kind line →
-      IsRefusedFor text kind line
+-- Among the files there is none of this name, which the model opens: it is the model's own, or that of a file that it includes.
+abbrev pub MissesFile : Files → List ℕ → List ℕ → Type 0
+MissesFile files model name = MeetsMissing (model_in files model) name
 
--- A text that is a model has no first fault.
-abbrev pub HasNoFaultAsModel : List ℕ → Type 0
-HasNoFaultAsModel text = (model : Model) (kind : Kind) (line : ℕ) → HasModel text model → IsRefusedFor text kind line → ⊥
+-- No name is two models.
+abbrev pub HasOneModel : Files → List ℕ → Type 0
+HasOneModel files name = (one other : Model) → HasModel files name one → HasModel files name other → one ≡ other
 
--- No text has two first faults: the kind and the line of one are those of the other.
-abbrev pub HasOneFault : List ℕ → Type 0
-HasOneFault text = (kind other : Kind) (line over : ℕ) → IsRefusedFor text kind line → IsRefusedFor text other over → (kind ≡ other) × (line ≡ over)
+-- A name that is a model has no first fault.
+abbrev pub HasNoFaultAsModel : Files → List ℕ → Type 0
+HasNoFaultAsModel files name = (model : Model) (fault : Fault) (opened : List (List ℕ)) → HasModel files name model → IsRefusedFor files name fault opened → ⊥
+
+-- No name has two first faults.
+abbrev pub HasOneFault : Files → List ℕ → Type 0
+HasOneFault files name =
+    (fault other : Fault) (opened others : List (List ℕ)) → IsRefusedFor files name fault opened → IsRefusedFor files name other others → (fault ≡ other) × (opened ≡ others)
+
+-- Where a file is missing, the name is no model, and has no first fault.
+pub record HasOnlyAMissingFile (files : Files) (name missing : List ℕ) : Type 0 where
+  pub no_model : (model : Model) → ¬ HasModel files name model
+  pub no_fault : (fault : Fault) (opened : List (List ℕ)) → ¬ IsRefusedFor files name fault opened
+  pub one : (other : List ℕ) → MissesFile files name other → other ≡ missing

@@ -74,11 +74,11 @@ pub fn run<F: Folder, O: Sink, E: Sink>(
 ) -> Status
     // How the run ended: what is so of the files, which status it has, and which line it puts.
     ensures runs { Runs (job_of (map string_bytes words.now)) (F.state folder.old) (F.state folder.new) (E.state err.old) (E.state err.new) result }
-    // Which status must come where nothing failed, unless memory was refused.
+    // Which status must come, unless memory was refused; done and refused only where nothing failed.
     ensures usage { MustBeUsage (job_of (map string_bytes words.now)) result }
     ensures done { MustBeDone (job_of (map string_bytes words.now)) (F.state folder.old) (F.state folder.new) result }
     ensures refused { MustBeRefused (job_of (map string_bytes words.now)) (F.state folder.old) (F.state folder.new) result }
-    ensures read_fault { MustBeReadFault (job_of (map string_bytes words.now)) (F.state folder.old) (F.state folder.new) result }
+    ensures read_fault { MustBeReadFault (job_of (map string_bytes words.now)) (F.state folder.old) result }
     // Beside a table of this run that ends in its last line, the other files are whole.
     ensures ended_table { EndedTableIsWhole (job_of (map string_bytes words.now)) (F.state folder.old) (F.state folder.new) }
     // Nothing is put to `out`.

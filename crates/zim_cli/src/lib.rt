@@ -26,7 +26,8 @@ pub use command::run;
 pub use ending::Ending;
 pub use jobs::Job;
 pub use laws::{
-    a_model_has_no_fault, a_model_has_one_of_each_text, a_text_has_one_fault, a_text_has_one_model,
+    a_missing_file_is_the_only_answer, a_model_has_no_fault, a_model_has_one_of_each_text,
+    a_name_has_one_fault, a_name_has_one_model,
 };
 pub use status::{Status, exit_number};
 pub use words::job;

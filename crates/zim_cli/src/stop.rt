@@ -4,7 +4,7 @@ ghost use Rattle.zim_cli.specs.declared.stop.ParseStop.TheVariants as parsing;
 ghost use Rattle.zim_cli.specs.Stops.{stopped_at, stop_of_row};
 
 use std::alloc::{AllocError, AllocFailed};
-use zim_fault::{Kind, Memory, Place};
+use zim_fault::{Fault, Memory, Place};
 use zim_rows::RowFault;
 
 /// The tokens that come next are not what plain form has there.
@@ -64,8 +64,8 @@ pub enum ParseStop {
 /// Why lines were not read as a model.
 #[derive(Clone, Copy, Debug, PartialEq, Eq, Drop)]
 pub enum ReadStop {
-    /// The kind of the first fault, and the line at which it stands.
-    Refused(Kind, u32),
+    /// Their first fault.
+    Refused(Fault),
     /// Memory was refused.
     Memory,
 }

@@ -3,11 +3,11 @@ use Rattle.std.proofs.Common.{◌≡◌, ℕ, Bool, true, false, ◌||◌, refl,
 use Rattle.std.proofs.lemmas.Bool.{eqb-true}
 use Rattle.std.proofs.lemmas.Bool.Decides.{nat_tests}
 use Rattle.std.specs.Prelude.{not, ◌==◌}
-use Rattle.zim_lex.specs.Classes.{is_blank, begins_comment, is_digit, begins_name}
+use Rattle.zim_lex.specs.Classes.{is_blank, begins_comment, is_digit, begins_name, begins_fraction, begins_exponent, is_quote, starts_number}
 
--- a byte that only a sign can begin with
+-- a byte that only a sign or a number can begin with
 abbrev pub is_other : ℕ → Bool
-is_other b = not (is_blank b || begins_comment b || begins_name b || is_digit b)
+is_other b = not (is_blank b || begins_comment b || begins_name b || is_quote b)
 
 -- a test that holds of a byte by which another one holds
 either : (p q : Bool) (R : Type 0) → (p ≡ true → R) → (q ≡ true → R) → (p || q) ≡ true → R
@@ -27,17 +27,41 @@ blank_begins_no_comment = of_blanks begins_comment false refl refl refl
 pub blank_begins_no_name : (b : ℕ) → is_blank b ≡ true → begins_name b ≡ false
 blank_begins_no_name = of_blanks begins_name false refl refl refl
 
-pub blank_is_no_digit : (b : ℕ) → is_blank b ≡ true → is_digit b ≡ false
-blank_is_no_digit = of_blanks is_digit false refl refl refl
+pub blank_starts_no_number : (b : ℕ) → is_blank b ≡ true → starts_number b ≡ false
+blank_starts_no_number = of_blanks starts_number false refl refl refl
+
+pub blank_is_no_quote : (b : ℕ) → is_blank b ≡ true → is_quote b ≡ false
+blank_is_no_quote = of_blanks is_quote false refl refl refl
 
 pub blank_is_no_other : (b : ℕ) → is_blank b ≡ true → is_other b ≡ false
 blank_is_no_other = of_blanks is_other false refl refl refl
 
-pub name_begins_no_digit : (b : ℕ) → begins_name b ≡ true → is_digit b ≡ false
-name_begins_no_digit b h = grind (arith, nat_tests)
+pub name_starts_no_number : (b : ℕ) → begins_name b ≡ true → starts_number b ≡ false
+name_starts_no_number b h = grind (arith, nat_tests)
+
+pub name_is_no_quote : (b : ℕ) → begins_name b ≡ true → is_quote b ≡ false
+name_is_no_quote b h = grind (arith, nat_tests)
 
 pub comment_begins_no_name : (b : ℕ) → begins_comment b ≡ true → begins_name b ≡ false
 comment_begins_no_name b h = at_byte begins_name false b 35 refl h
 
-pub comment_is_no_digit : (b : ℕ) → begins_comment b ≡ true → is_digit b ≡ false
-comment_is_no_digit b h = at_byte is_digit false b 35 refl h
+pub comment_starts_no_number : (b : ℕ) → begins_comment b ≡ true → starts_number b ≡ false
+comment_starts_no_number b h = at_byte starts_number false b 35 refl h
+
+pub comment_is_no_quote : (b : ℕ) → begins_comment b ≡ true → is_quote b ≡ false
+comment_is_no_quote b h = at_byte is_quote false b 35 refl h
+
+pub quote_starts_no_number : (b : ℕ) → is_quote b ≡ true → starts_number b ≡ false
+quote_starts_no_number b = either (b == 34) (b == 39) (starts_number b ≡ false) (at_byte starts_number false b 34 refl) (at_byte starts_number false b 39 refl)
+
+pub quote_begins_no_name : (b : ℕ) → is_quote b ≡ true → begins_name b ≡ false
+quote_begins_no_name b = either (b == 34) (b == 39) (begins_name b ≡ false) (at_byte begins_name false b 34 refl) (at_byte begins_name false b 39 refl)
+
+pub digit_begins_no_fraction : (b : ℕ) → is_digit b ≡ true → begins_fraction b ≡ false
+digit_begins_no_fraction b h = grind (arith, nat_tests)
+
+pub fraction_begins_no_exponent : (b : ℕ) → begins_fraction b ≡ true → begins_exponent b ≡ false
+fraction_begins_no_exponent b h = at_byte begins_exponent false b 46 refl h
+
+pub fraction_is_no_digit : (b : ℕ) → begins_fraction b ≡ true → is_digit b ≡ false
+fraction_is_no_digit b h = at_byte is_digit false b 46 refl h

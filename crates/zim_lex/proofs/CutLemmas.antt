@@ -1,13 +1,12 @@
 -- Cutting a line from left to right gives its one list of pieces, each as long as it can be, and stops exactly where a byte begins none.
-use Rattle.std.proofs.Common.{◌≡◌, ℕ, zero, suc, ◌+◌, ◌-◌, ◌≤◌, ◌<◌, true, false, List, [], ◌∷◌, ◌++◌, length, take, drop, Option, Some, None, Ok, Err, ◌⊎◌, inl, inr, refl, ap, sym, ◌∙◌, subst, arith, length-append, length-drop}
+use Rattle.std.proofs.Common.{◌≡◌, ℕ, zero, suc, ◌+◌, ◌-◌, ◌≤◌, ◌<◌, true, false, List, [], ◌∷◌, ◌++◌, length, take, drop, get_or, Option, Some, None, Ok, Err, ◌⊎◌, inl, inr, refl, ap, sym, ◌∙◌, subst, arith, length-append, length-drop}
 use Rattle.std.proofs.Math.Seq.{take-add, take-append-add, take-append_seam, drop-append_seam}
 use Rattle.std.proofs.lemmas.List.{take-append-drop, take_all}
 use Rattle.zim_answer.specs.Answer.{Answer, ◌>>=◌}
 use Rattle.zim_answer.proofs.BindLemmas.{bind_gave, bind_failed}
 use Rattle.zim_fault.specs.declared.kinds.Kind.{Kind}
-use Rattle.zim_fault.specs.declared.kinds.Kind.TheVariants.{BadByte}
 use Rattle.zim_lex.specs.Pieces.{is_piece}
-use Rattle.zim_lex.specs.Cut.{joined, IsLongest, AreLongest, IsCut, IsStuck, longest, or_bad_byte, cut_up_to, cut}
+use Rattle.zim_lex.specs.Cut.{joined, IsLongest, AreLongest, IsCut, IsStuck, stuck_at, longest, or_stuck, cut_up_to, cut}
 use Rattle.zim_lex.proofs.PieceLemmas.{is_piece-nil}
 use Rattle.zim_lex.proofs.LongestLemmas.{IsLongestFront, fronts_at, none_at, longest_at, longest_none}
 
@@ -21,7 +20,7 @@ unfolding longest
 no_front_of bytes h = none_at (length bytes) bytes h
 
 -- one turn of the cut
-cut_up_to-turn : (most : ℕ) (b : ℕ) (bs : List ℕ) → cut_up_to (suc most) (b ∷ bs) ≡ (or_bad_byte (longest (b ∷ bs)) >>= λ n. cut_up_to most (drop n (b ∷ bs)) >>= λ others. Ok (take n (b ∷ bs) ∷ others))
+cut_up_to-turn : (most : ℕ) (b : ℕ) (bs : List ℕ) → cut_up_to (suc most) (b ∷ bs) ≡ (or_stuck b (longest (b ∷ bs)) >>= λ n. cut_up_to most (drop n (b ∷ bs)) >>= λ others. Ok (take n (b ∷ bs) ∷ others))
 unfolding cut_up_to
 cut_up_to-turn most b bs = refl
 
@@ -30,9 +29,9 @@ unfolding cut_up_to
 cut_up_to-nil most = refl
 
 -- going on after a length is found
-after_found : {B : Type 0} (found : Option ℕ) (f g : ℕ → Answer B Kind) → ((n : ℕ) → found ≡ Some n → f n ≡ g n) → (or_bad_byte found >>= f) ≡ (or_bad_byte found >>= g)
-after_found (Some n) f g same = same n refl
-after_found None f g same = refl
+after_found : {B : Type 0} (b : ℕ) (found : Option ℕ) (f g : ℕ → Answer B Kind) → ((n : ℕ) → found ≡ Some n → f n ≡ g n) → (or_stuck b found >>= f) ≡ (or_stuck b found >>= g)
+after_found b (Some n) f g same = same n refl
+after_found b None f g same = refl
 
 -- turns to spare change nothing
 enough_turns : (t u : ℕ) (bytes : List ℕ) → length bytes ≤ t → length bytes ≤ u → cut_up_to t bytes ≡ cut_up_to u bytes
@@ -41,7 +40,7 @@ enough_turns zero u (b ∷ bs) few many = absurd (omega arith)
 enough_turns (suc t) zero (b ∷ bs) few many = absurd (omega arith)
 enough_turns (suc t) (suc u) (b ∷ bs) few many =
     cut_up_to-turn t b bs
-    ∙ after_found (longest (b ∷ bs)) _ _ (λ n found.
+    ∙ after_found b (longest (b ∷ bs)) _ _ (λ n found.
     let front = front_of (b ∷ bs) n found in
     let shorter : length (drop n (b ∷ bs)) ≤ length bs = rw length-drop (omega (arith, front.some)) in
     ap (λ (a : Answer (List (List ℕ)) Kind). a >>= λ others. Ok (take n (b ∷ bs) ∷ others)) (enough_turns t u (drop n (b ∷ bs)) (omega arith) (omega arith)))
@@ -62,7 +61,7 @@ cut-turn (b ∷ bs) n found =
     ∙ rw found (ap (λ (a : Answer (List (List ℕ)) Kind). a >>= λ others. Ok (take n (b ∷ bs) ∷ others)) (enough_turns (length bs) (length (drop n (b ∷ bs))) (drop n (b ∷ bs)) shorter (omega arith)))
 
 -- and stops where no piece begins
-pub cut-stuck : (bytes : List ℕ) → 0 < length bytes → longest bytes ≡ None → cut bytes ≡ Err BadByte
+pub cut-stuck : (bytes : List ℕ) → 0 < length bytes → longest bytes ≡ None → cut bytes ≡ Err (stuck_at (get_or bytes 0 0))
 unfolding cut
 cut-stuck [] some none = absurd (omega arith)
 cut-stuck (b ∷ bs) some none = cut_up_to-turn (length bs) b bs ∙ rw none refl
@@ -102,13 +101,13 @@ cut-piece piece after long =
     let rest : drop (length piece) (piece ++ after) ≡ after = drop-append_seam piece after in
     cut-turn (piece ++ after) (length piece) (found_again piece after long) ∙ rw (front, rest) refl
 
-found_from : (o : Option ℕ) (n : ℕ) → or_bad_byte o ≡ Ok n → o ≡ Some n
-found_from (Some m) n h = (let e : m ≡ n = cc in cc)
-found_from None n h = cc
+found_from : (b : ℕ) (o : Option ℕ) (n : ℕ) → or_stuck b o ≡ Ok n → o ≡ Some n
+found_from b (Some m) n h = (let e : m ≡ n = cc in cc)
+found_from b None n h = cc
 
-none_from : (o : Option ℕ) (kind : Kind) → or_bad_byte o ≡ Err kind → (o ≡ None) × (kind ≡ BadByte)
-none_from (Some m) kind h = cc
-none_from None kind h = (refl, cc)
+none_from : (b : ℕ) (o : Option ℕ) (kind : Kind) → or_stuck b o ≡ Err kind → (o ≡ None) × (stuck_at b ≡ kind)
+none_from b (Some m) kind h = cc
+none_from b None kind h = (refl, cc)
 
 shorter : (bytes : List ℕ) (most n : ℕ) → longest bytes ≡ Some n → length bytes ≤ suc most → length (drop n bytes) ≤ most
 shorter bytes most n found few = let front = front_of bytes n found in rw length-drop (omega (arith, front.some))
@@ -127,9 +126,9 @@ cut_up_to_is most [] pieces few h =
     subst (IsCut []) same (record { spelled = refl; longest = tt })
 cut_up_to_is zero (b ∷ bs) pieces few h = absurd (omega arith)
 cut_up_to_is (suc most) (b ∷ bs) pieces few h =
-    let (n, is_n, after) = bind_gave (or_bad_byte (longest (b ∷ bs))) _ pieces (sym (cut_up_to-turn most b bs) ∙ h) in
+    let (n, is_n, after) = bind_gave (or_stuck b (longest (b ∷ bs))) _ pieces (sym (cut_up_to-turn most b bs) ∙ h) in
     let (others, rest, made) = bind_gave (cut_up_to most (drop n (b ∷ bs))) _ pieces after in
-    let found : longest (b ∷ bs) ≡ Some n = found_from (longest (b ∷ bs)) n is_n in
+    let found : longest (b ∷ bs) ≡ Some n = found_from b (longest (b ∷ bs)) n is_n in
     let same : take n (b ∷ bs) ∷ others ≡ pieces = cc in
     subst (IsCut (b ∷ bs)) same (more_pieces (b ∷ bs) n others found (cut_up_to_is most (drop n (b ∷ bs)) others (shorter (b ∷ bs) most n found few) rest))
 
@@ -149,14 +148,15 @@ pub one_cut : (line : List ℕ) (first second : List (List ℕ)) → IsCut line 
 one_cut line first second one other = let both : Ok first ≡ Ok second = sym (is_cut first line one) ∙ is_cut second line other in cc
 
 -- the longest front, before a rest that is stuck
-more_stuck : (bytes : List ℕ) (n : ℕ) → longest bytes ≡ Some n → IsStuck (drop n bytes) → IsStuck bytes
-more_stuck bytes n found rest = record {
+more_stuck : (bytes : List ℕ) (n : ℕ) (kind : Kind) → longest bytes ≡ Some n → IsStuck (drop n bytes) kind → IsStuck bytes kind
+more_stuck bytes n kind found rest = record {
   pieces = take n bytes ∷ rest.pieces;
   byte = rest.byte;
   after = rest.after;
   spelled = ap (λ (after : List ℕ). take n bytes ++ after) rest.spelled ∙ take-append-drop n bytes;
   longest = (subst (IsLongest (take n bytes)) (sym rest.spelled) (longest_piece bytes n found), rest.longest);
   begins_none = rest.begins_none;
+  met = rest.met;
 }
 
 either_way : (n k : ℕ) → (n ≤ k) ⊎ (k ≤ n)
@@ -165,8 +165,8 @@ either_way (suc n) zero = inr (omega arith)
 either_way (suc n) (suc k) = elim (either_way n k) [ inl low ↦ inl (omega arith) | inr high ↦ inr (omega arith) ]
 
 -- where no front is a piece
-stuck_here : (b : ℕ) (bs : List ℕ) → longest (b ∷ bs) ≡ None → IsStuck (b ∷ bs)
-stuck_here b bs none = record {
+stuck_here : (b : ℕ) (bs : List ℕ) (kind : Kind) → longest (b ∷ bs) ≡ None → stuck_at b ≡ kind → IsStuck (b ∷ bs) kind
+stuck_here b bs kind none met = record {
   pieces = [];
   byte = b;
   after = bs;
@@ -176,32 +176,33 @@ stuck_here b bs none = record {
     | inl within ↦ no_front_of (b ∷ bs) none n within
     | inr past ↦ ap is_piece (take_all n (b ∷ bs) past ∙ sym (take_all (length (b ∷ bs)) (b ∷ bs) (omega arith))) ∙ no_front_of (b ∷ bs) none (length (b ∷ bs)) (omega arith)
   ];
+  met = met;
 }
 
 -- the cut fails only where the line is stuck
-cut_up_to_fails : (most : ℕ) (bytes : List ℕ) (kind : Kind) → length bytes ≤ most → cut_up_to most bytes ≡ Err kind → IsStuck bytes × (kind ≡ BadByte)
+cut_up_to_fails : (most : ℕ) (bytes : List ℕ) (kind : Kind) → length bytes ≤ most → cut_up_to most bytes ≡ Err kind → IsStuck bytes kind
 cut_up_to_fails most [] kind few h = let e : Ok [] ≡ Err kind = sym (cut_up_to-nil most) ∙ h in cc
 cut_up_to_fails zero (b ∷ bs) kind few h = absurd (omega arith)
 cut_up_to_fails (suc most) (b ∷ bs) kind few h =
-    elim (bind_failed (or_bad_byte (longest (b ∷ bs))) _ kind (sym (cut_up_to-turn most b bs) ∙ h)) [
-      | inl here ↦ (let none = none_from (longest (b ∷ bs)) kind here in (stuck_here b bs none.0, none.1))
+    elim (bind_failed (or_stuck b (longest (b ∷ bs))) _ kind (sym (cut_up_to-turn most b bs) ∙ h)) [
+      | inl here ↦ (let none = none_from b (longest (b ∷ bs)) kind here in stuck_here b bs kind none.0 none.1)
       | inr later ↦ (let (n, is_n, after) = later in
-          let found : longest (b ∷ bs) ≡ Some n = found_from (longest (b ∷ bs)) n is_n in
+          let found : longest (b ∷ bs) ≡ Some n = found_from b (longest (b ∷ bs)) n is_n in
           elim (bind_failed (cut_up_to most (drop n (b ∷ bs))) _ kind after) [
-            | inl there ↦ (let rest = cut_up_to_fails most (drop n (b ∷ bs)) kind (shorter (b ∷ bs) most n found few) there in (more_stuck (b ∷ bs) n found rest.0, rest.1))
+            | inl there ↦ more_stuck (b ∷ bs) n kind found (cut_up_to_fails most (drop n (b ∷ bs)) kind (shorter (b ∷ bs) most n found few) there)
             | inr never ↦ (let (others, gave, e) = never in cc)
           ])
     ]
 
-pub cut_fails : (line : List ℕ) (kind : Kind) → cut line ≡ Err kind → IsStuck line × (kind ≡ BadByte)
+pub cut_fails : (line : List ℕ) (kind : Kind) → cut line ≡ Err kind → IsStuck line kind
 unfolding cut
 cut_fails line kind h = cut_up_to_fails (length line) line kind (omega arith) h
 
 -- and always there
-stuck_after : (pieces : List (List ℕ)) (b : ℕ) (bs : List ℕ) → AreLongest pieces (b ∷ bs) → ((n : ℕ) → is_piece (take n (b ∷ bs)) ≡ false) → cut (joined pieces (b ∷ bs)) ≡ Err BadByte
+stuck_after : (pieces : List (List ℕ)) (b : ℕ) (bs : List ℕ) → AreLongest pieces (b ∷ bs) → ((n : ℕ) → is_piece (take n (b ∷ bs)) ≡ false) → cut (joined pieces (b ∷ bs)) ≡ Err (stuck_at b)
 unfolding longest
 stuck_after [] b bs all none = cut-stuck (b ∷ bs) (omega arith) (longest_none (length (b ∷ bs)) (b ∷ bs) (λ m _ _. none m))
 stuck_after (piece ∷ pieces) b bs all none = cut-piece piece (joined pieces (b ∷ bs)) all.0 ∙ rw (stuck_after pieces b bs all.1 none) refl
 
-pub is_stuck : (line : List ℕ) → IsStuck line → cut line ≡ Err BadByte
-is_stuck line stuck = ap cut (sym stuck.spelled) ∙ stuck_after stuck.pieces stuck.byte stuck.after stuck.longest stuck.begins_none
+pub is_stuck : (line : List ℕ) (kind : Kind) → IsStuck line kind → cut line ≡ Err kind
+is_stuck line kind stuck = ap cut (sym stuck.spelled) ∙ stuck_after stuck.pieces stuck.byte stuck.after stuck.longest stuck.begins_none ∙ ap Err stuck.met

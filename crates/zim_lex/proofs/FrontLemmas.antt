@@ -1,14 +1,16 @@
 -- The longest piece at the front of some bytes, by the class of the first one, in the words of the code.
-use Rattle.std.proofs.Common.{◌≡◌, ℕ, suc, ◌+◌, ◌<◌, Bool, true, false, List, [], ◌∷◌, length, get_or, Some, None, refl, ◌∙◌, arith}
-use Rattle.std.specs.Prelude.{if◌then◌else◌, nat_le, nat_lt, ◌==◌}
+use Rattle.std.proofs.Common.{◌≡◌, ℕ, zero, suc, ◌+◌, ◌≤◌, ◌<◌, Bool, true, false, ◌||◌, List, [], ◌∷◌, length, take, get_or, Option, Some, None, refl, sym, ◌∙◌, arith}
+use Rattle.std.specs.Prelude.{◌==◌}
 use Rattle.std.specs.List.{prefix_len}
 use Rattle.std.proofs.lemmas.Bool.Decides.{nat_tests}
-use Rattle.zim_lex.specs.Classes.{is_blank, begins_comment, is_digit, begins_name, continues_name}
+use Rattle.zim_lex.specs.Classes.{is_blank, begins_comment, begins_name, continues_name, is_quote}
+use Rattle.zim_lex.specs.Fronts.{IsLongestThat, NoneThat, IsFrontThat}
+use Rattle.zim_lex.specs.Numbers.{is_number, is_string}
 use Rattle.zim_lex.specs.Pieces.{is_piece, is_sign}
 use Rattle.zim_lex.specs.Cut.{longest}
 use Rattle.zim_lex.specs.Signs.{longest_sign}
-use Rattle.zim_lex.proofs.PieceLemmas.{blank_pieces, comment_pieces, name_pieces, digit_pieces, sign_pieces}
-use Rattle.zim_lex.proofs.LongestLemmas.{longest_run, longest_all, longest_sign_two, longest_sign_one, longest_sign_none}
+use Rattle.zim_lex.proofs.PieceLemmas.{blank_pieces, comment_pieces, name_pieces, string_pieces, other_pieces, begins_number, number_begins, begins_longer, no_sign_of_number, is_piece-nil, is_sign-nil}
+use Rattle.zim_lex.proofs.LongestLemmas.{longest_run, longest_all, longest_by, sign_front}
 
 -- the first byte, where there is one
 abbrev pub first_byte : List ℕ → ℕ
@@ -37,32 +39,42 @@ longest_name (b ∷ bs) some k c h =
     let goes_on : continues_name b ≡ true = rw h refl in
     longest_run continues_name b bs (λ xs. name_pieces b xs k c h) ∙ one_passes continues_name b bs goes_on
 
-pub longest_digits : (bytes : List ℕ) → 0 < length bytes → is_blank (first_byte bytes) ≡ false → begins_comment (first_byte bytes) ≡ false → begins_name (first_byte bytes) ≡ false → is_digit (first_byte bytes) ≡ true
-    → longest bytes ≡ Some (prefix_len is_digit bytes)
-longest_digits [] some k c n h = absurd (omega arith)
-longest_digits (b ∷ bs) some k c n h = longest_run is_digit b bs (λ xs. digit_pieces b xs k c n h) ∙ one_passes is_digit b bs h
+-- a string
+pub longest_string : (bytes : List ℕ) (found : Option ℕ) → 0 < length bytes → is_blank (first_byte bytes) ≡ false → begins_comment (first_byte bytes) ≡ false → begins_name (first_byte bytes) ≡ false → is_quote (first_byte bytes) ≡ true
+    → IsFrontThat is_string bytes found → longest bytes ≡ found
+longest_string [] found some k c n q front = absurd (omega arith)
+longest_string (b ∷ bs) found some k c n q front = longest_by is_string (b ∷ bs) found each front where
+  each : (m : ℕ) → m ≤ length (b ∷ bs) → is_piece (take m (b ∷ bs)) ≡ is_string (take m (b ∷ bs))
+  each zero high = is_piece-nil
+  each (suc m) high = string_pieces b (take m bs) k c n q
 
-one_sign : (b : ℕ) → ((xs : List ℕ) → is_piece (b ∷ xs) ≡ is_sign (b ∷ xs)) → (one : Bool) → is_sign (b ∷ []) ≡ one → longest (b ∷ []) ≡ (if one then Some 1 else None)
-one_sign b each true h = longest_all (b ∷ []) (omega arith) (each [] ∙ h)
-one_sign b each false h = longest_sign_none b [] each h h
+number_or_sign : (b : ℕ) (bs : List ℕ) → is_blank b ≡ false → begins_comment b ≡ false → begins_name b ≡ false → is_quote b ≡ false
+    → (m : ℕ) → m ≤ length (b ∷ bs) → is_piece (take m (b ∷ bs)) ≡ (is_number (take m (b ∷ bs)) || is_sign (take m (b ∷ bs)))
+number_or_sign b bs k c n q zero high = is_piece-nil ∙ sym is_sign-nil
+number_or_sign b bs k c n q (suc m) high = other_pieces b (take m bs) k c n q
 
-two_signs : (b c : ℕ) (bs : List ℕ) → ((xs : List ℕ) → is_piece (b ∷ xs) ≡ is_sign (b ∷ xs)) → (two one : Bool) → is_sign (b ∷ c ∷ []) ≡ two → is_sign (b ∷ []) ≡ one
-    → longest (b ∷ c ∷ bs) ≡ (if two then Some 2 else (if one then Some 1 else None))
-two_signs b c bs each true one h k = longest_sign_two b c bs each h
-two_signs b c bs each false true h k = longest_sign_one b (c ∷ bs) each h k
-two_signs b c bs each false false h k = longest_sign_none b (c ∷ bs) each h k
+neither : (x y : Bool) → x ≡ false → y ≡ false → (x || y) ≡ false
+neither x y h k = rw (h, k) refl
 
-signs_of : (b : ℕ) (bs : List ℕ) → ((xs : List ℕ) → is_piece (b ∷ xs) ≡ is_sign (b ∷ xs)) → longest (b ∷ bs) ≡ longest_sign (b ∷ bs)
-signs_of b [] each = one_sign b each (is_sign (b ∷ [])) refl
-signs_of b (c ∷ bs) each =
-    let two : nat_le 2 (length (b ∷ c ∷ bs)) ≡ true = grind (arith, nat_tests) in
-    let one : nat_lt 0 (length (b ∷ c ∷ bs)) ≡ true = grind (arith, nat_tests) in
-    two_signs b c bs each (is_sign (b ∷ c ∷ [])) (is_sign (b ∷ [])) refl refl ∙ rw (two, one) refl
+-- a number, which no sign begins as
+pub longest_number : (bytes : List ℕ) (n : ℕ) → 0 < length bytes → is_blank (first_byte bytes) ≡ false → begins_comment (first_byte bytes) ≡ false → begins_name (first_byte bytes) ≡ false → is_quote (first_byte bytes) ≡ false
+    → IsLongestThat is_number bytes n → longest bytes ≡ Some n
+longest_number [] found some k c n q front = absurd (omega arith)
+longest_number (b ∷ bs) found some k c n q front =
+    let begins : begins_number (take found (b ∷ bs)) ≡ true = number_begins (take found (b ∷ bs)) front.is in
+    longest_by (λ text. is_number text || is_sign text) (b ∷ bs) (Some found) (number_or_sign b bs k c n q) (record {
+      within = front.within;
+      is = rw front.is refl;
+      longer = λ m low high.
+          neither (is_number (take m (b ∷ bs))) (is_sign (take m (b ∷ bs))) (front.longer m low high) (no_sign_of_number (take m (b ∷ bs)) (begins_longer found m (b ∷ bs) begins (omega arith)));
+    })
 
-pub longest_signs : (bytes : List ℕ) → 0 < length bytes → is_blank (first_byte bytes) ≡ false → begins_comment (first_byte bytes) ≡ false → begins_name (first_byte bytes) ≡ false → is_digit (first_byte bytes) ≡ false
-    → longest bytes ≡ longest_sign bytes
-longest_signs [] some k c n d = absurd (omega arith)
-longest_signs (b ∷ bs) some k c n d = signs_of b bs (λ xs. sign_pieces b xs k c n d)
+-- where no number begins
+pub longest_signs : (bytes : List ℕ) → 0 < length bytes → is_blank (first_byte bytes) ≡ false → begins_comment (first_byte bytes) ≡ false → begins_name (first_byte bytes) ≡ false → is_quote (first_byte bytes) ≡ false
+    → NoneThat is_number bytes → longest bytes ≡ longest_sign bytes
+longest_signs [] some k c n q none = absurd (omega arith)
+longest_signs (b ∷ bs) some k c n q none =
+    longest_by is_sign (b ∷ bs) (longest_sign (b ∷ bs)) (λ m high. number_or_sign b bs k c n q m high ∙ rw (none m high) refl) (sign_front (b ∷ bs))
 
 -- what a test for emptiness says
 pub no_bytes : (bytes : List ℕ) (r : Bool) → r ≡ (length bytes == 0) → r ≡ true → bytes ≡ []

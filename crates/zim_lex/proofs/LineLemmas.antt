@@ -1,16 +1,15 @@
 -- The tokens of a line as a loop over its pieces meets them.
-use Rattle.std.proofs.Common.{◌≡◌, ℕ, ◌≤◌, ◌<◌, true, List, [], ◌∷◌, ◌++◌, length, take, drop, Some, None, Ok, Err, refl, ap, sym, ◌∙◌, arith, append_assoc, length-drop}
+use Rattle.std.proofs.Common.{◌≡◌, ℕ, ◌≤◌, ◌<◌, true, List, [], ◌∷◌, ◌++◌, length, take, drop, get_or, Some, None, Ok, Err, refl, ap, sym, ◌∙◌, arith, append_assoc, length-drop}
 use Rattle.std.proofs.lemmas.List.{append-nil}
 use Rattle.std.proofs.lemmas.List.Concat.{flat_map-cons}
 use Rattle.zim_answer.specs.Answer.{Answer, ◌>>=◌}
 use Rattle.zim_fault.specs.declared.faults.Place.{Place}
 use Rattle.zim_fault.specs.declared.faults.Fault.{Fault}
 use Rattle.zim_fault.specs.declared.kinds.Kind.{Kind}
-use Rattle.zim_fault.specs.declared.kinds.Kind.TheVariants.{BadByte}
 use Rattle.zim_fault.specs.declared.tokens.Placed.{Placed}
 use Rattle.zim_lex.specs.declared.lines.Line.{Line}
 use Rattle.zim_lex.specs.Pieces.{is_piece, token_of}
-use Rattle.zim_lex.specs.Cut.{longest, cut}
+use Rattle.zim_lex.specs.Cut.{longest, stuck_at, cut}
 use Rattle.zim_lex.specs.Tokens.{placed_token, tokens_at, met_at, line_tokens, with_line}
 use Rattle.zim_lex.proofs.CutLemmas.{front_of, cut-nil, cut-turn, cut-stuck}
 
@@ -43,7 +42,7 @@ with_bytes-turn so_far place bytes n found =
     at (Err kind) = refl
 
 -- a byte that begins no piece
-pub with_bytes-stuck : (so_far : List Placed) (place : Place) (bytes : List ℕ) → 0 < length bytes → longest bytes ≡ None → with_bytes so_far place bytes ≡ Err (record { place = place; kind = BadByte })
+pub with_bytes-stuck : (so_far : List Placed) (place : Place) (bytes : List ℕ) → 0 < length bytes → longest bytes ≡ None → with_bytes so_far place bytes ≡ Err (record { place = place; kind = stuck_at (get_or bytes 0 0) })
 with_bytes-stuck so_far place bytes some none = rw (cut-stuck bytes some none) refl
 
 -- the bytes that are left become fewer with each piece

@@ -1,10 +1,9 @@
--- The lines of a text have no more bytes than the text, and stand in its file.
-use Rattle.std.proofs.Common.{◌≡◌, ℕ, suc, ◌+◌, ◌≤◌, ◌<◌, Bool, true, false, cond, List, [], ◌∷◌, length, refl, ap, ◌∙◌, arith}
-use Rattle.std.specs.Prelude.{All, sum_by, ◌==◌, if◌then◌else◌}
+-- The lines of a text have no more bytes than the text.
+use Rattle.std.proofs.Common.{◌≡◌, ℕ, suc, ◌+◌, ◌≤◌, Bool, true, false, cond, List, [], ◌∷◌, length, refl, ap, ◌∙◌, arith}
+use Rattle.std.specs.Prelude.{sum_by, ◌==◌, if◌then◌else◌}
 use Rattle.std.specs.List.{slice_split, onto_first}
-use Rattle.std.proofs.lemmas.List.Elements.{All-cons, All-nil}
 use Rattle.std.proofs.lemmas.List.Sums.{sum_by-cons}
-use Rattle.zim_lex.specs.Lines.{most_bytes, without_empty_last, lines_of, placed_lines, AreWithin}
+use Rattle.zim_lex.specs.Lines.{without_empty_last, lines_of, placed_lines, bytes_of}
 
 -- how many bytes some parts have together
 abbrev bytes_in : List (List ℕ) → ℕ
@@ -35,13 +34,7 @@ placed_bytes : (n : ℕ) (parts : List (List ℕ)) → sum_by (λ line. length l
 placed_bytes n [] = refl
 placed_bytes n (part ∷ parts) = sum_by-cons (λ line. length line.bytes) (record { place = record { file = 0; line = n }; bytes = part }) (placed_lines 0 (n + 1) parts) ∙ ap (λ (k : ℕ). length part + k) (placed_bytes (n + 1) parts)
 
-in_first_file : (n : ℕ) (parts : List (List ℕ)) → All (λ line. line.place.file < 1) (placed_lines 0 n parts)
-in_first_file n [] = All-nil (λ line. line.place.file < 1)
-in_first_file n (part ∷ parts) = All-cons (λ line. line.place.file < 1) (record { place = record { file = 0; line = n }; bytes = part }) (placed_lines 0 (n + 1) parts) (omega arith) (in_first_file (n + 1) parts)
-
-pub lines_within : (text : List ℕ) → length text ≤ most_bytes → AreWithin (placed_lines 0 1 (lines_of text)) 1
+-- the lines of a text have no more bytes than the text
+pub lines_short : (text : List ℕ) → bytes_of (placed_lines 0 1 (lines_of text)) ≤ length text
 unfolding lines_of
-lines_within text short = record {
-  bytes = rw placed_bytes (omega (arith, last_bytes (slice_split (λ b. b == 10) text), split_bytes (λ b. b == 10) text));
-  places = in_first_file 1 (lines_of text);
-}
+lines_short text = rw placed_bytes (omega (arith, last_bytes (slice_split (λ b. b == 10) text), split_bytes (λ b. b == 10) text))

@@ -1,14 +1,17 @@
 -- The longest piece at the front, by what holds of each front, and class by class.
-use Rattle.std.proofs.Common.{◌≡◌, ℕ, zero, suc, ◌+◌, ◌≤◌, ◌<◌, Bool, true, false, cond, List, [], ◌∷◌, length, take, get_or, Some, None, inl, inr, refl, ap, sym, ◌∙◌, subst, arith}
-use Rattle.std.specs.Prelude.{if◌then◌else◌}
+use Rattle.std.proofs.Common.{◌≡◌, ℕ, zero, suc, ◌+◌, ◌≤◌, ◌<◌, Bool, true, false, cond, List, [], ◌∷◌, length, take, get_or, Option, Some, None, inl, inr, refl, ap, sym, ◌∙◌, subst, arith}
+use Rattle.std.specs.Prelude.{if◌then◌else◌, nat_le, nat_lt}
 use Rattle.std.specs.List.{list_all, prefix_len}
 use Rattle.std.proofs.Math.Nat.{eq-or-lt_of_le}
 use Rattle.std.proofs.lemmas.List.{take_all, length-take, get_or-take}
 use Rattle.std.proofs.lemmas.List.Folds.{list_all_at}
 use Rattle.std.proofs.lemmas.List.Sums.{prefix_len_stops, prefix_len-le-length}
 use Rattle.zim_lex.specs.Pieces.{is_piece, is_sign}
+use Rattle.std.proofs.lemmas.Bool.Decides.{nat_tests}
 use Rattle.zim_lex.specs.Cut.{longest_up_to, longest}
-use Rattle.zim_lex.proofs.PieceLemmas.{is_piece-nil, no_long_sign}
+use Rattle.zim_lex.specs.Fronts.{NoneThat, IsFrontThat}
+use Rattle.zim_lex.specs.Signs.{longest_sign}
+use Rattle.zim_lex.proofs.PieceLemmas.{is_piece-nil, is_sign-nil, no_long_sign}
 
 -- where no front of up to `most` bytes is a piece
 pub longest_none : (most : ℕ) (bytes : List ℕ) → ((m : ℕ) → 0 < m → m ≤ most → is_piece (take m bytes) ≡ false) → longest_up_to most bytes ≡ None
@@ -28,7 +31,7 @@ longest_at (suc most) n bytes low high is misses =
     ]
 
 -- the front that passes is one that passes, and no longer front does
-list_all_front : (p : ℕ → Bool) (bs : List ℕ) → list_all p (take (prefix_len p bs) bs) ≡ true
+pub list_all_front : (p : ℕ → Bool) (bs : List ℕ) → list_all p (take (prefix_len p bs) bs) ≡ true
 list_all_front p [] = refl
 list_all_front p (b ∷ bs) =
     let at : (t : Bool) → p b ≡ t → list_all p (take (cond t (1 + prefix_len p bs) 0) (b ∷ bs)) ≡ true =
@@ -57,36 +60,57 @@ longest_all bytes some is =
     let whole : is_piece (take (length bytes) bytes) ≡ true = rw (take_all (length bytes) bytes (omega arith)) is in
     longest_at (length bytes) (length bytes) bytes some (omega arith) whole (λ m low high. absurd (omega arith))
 
-past_two : (b c : ℕ) (bs : List ℕ) → ((xs : List ℕ) → is_piece (b ∷ xs) ≡ is_sign (b ∷ xs)) → (m : ℕ) → 2 < m → m ≤ length (b ∷ c ∷ bs) → is_piece (take m (b ∷ c ∷ bs)) ≡ false
-past_two b c bs each zero low high = absurd (omega arith)
-past_two b c bs each (suc zero) low high = absurd (omega arith)
-past_two b c bs each (suc (suc zero)) low high = absurd (omega arith)
-past_two b c [] each (suc (suc (suc m))) low high = absurd (omega arith)
-past_two b c (d ∷ bs) each (suc (suc (suc m))) low high = each (c ∷ d ∷ take m bs) ∙ no_long_sign b c d (take m bs)
-
-past_one : (b : ℕ) (bs : List ℕ) → ((xs : List ℕ) → is_piece (b ∷ xs) ≡ is_sign (b ∷ xs)) → is_sign (take 2 (b ∷ bs)) ≡ false → (m : ℕ) → 1 < m → m ≤ length (b ∷ bs) → is_piece (take m (b ∷ bs)) ≡ false
-past_one b bs each misses zero low high = absurd (omega arith)
-past_one b bs each misses (suc zero) low high = absurd (omega arith)
-past_one b [] each misses (suc (suc m)) low high = absurd (omega arith)
-past_one b (c ∷ bs) each misses (suc (suc zero)) low high = each (c ∷ []) ∙ misses
-past_one b (c ∷ bs) each misses (suc (suc (suc m))) low high = past_two b c bs each (suc (suc (suc m))) (omega arith) high
-
--- where the pieces that begin with a byte are signs
-pub longest_sign_two : (b c : ℕ) (bs : List ℕ) → ((xs : List ℕ) → is_piece (b ∷ xs) ≡ is_sign (b ∷ xs)) → is_sign (b ∷ c ∷ []) ≡ true → longest (b ∷ c ∷ bs) ≡ Some 2
+-- where the fronts that are pieces are those that pass another test
+pub longest_by : (p : List ℕ → Bool) (bytes : List ℕ) (found : Option ℕ) → ((m : ℕ) → m ≤ length bytes → is_piece (take m bytes) ≡ p (take m bytes)) → IsFrontThat p bytes found → longest bytes ≡ found
 unfolding longest
-longest_sign_two b c bs each is = longest_at (length (b ∷ c ∷ bs)) 2 (b ∷ c ∷ bs) (omega arith) (omega arith) (each (c ∷ []) ∙ is) (λ m low high. past_two b c bs each m low high)
+longest_by p bytes (Some zero) each front = let some : is_piece [] ≡ true = each 0 front.within ∙ front.is in let none : is_piece [] ≡ false = is_piece-nil in cc
+longest_by p bytes (Some (suc n)) each front =
+    longest_at (length bytes) (suc n) bytes (omega arith) front.within (each (suc n) front.within ∙ front.is) (λ m low high. each m high ∙ front.longer m low high)
+longest_by p bytes None each none = longest_none (length bytes) bytes (λ m low high. each m high ∙ none m high)
 
-pub longest_sign_one : (b : ℕ) (bs : List ℕ) → ((xs : List ℕ) → is_piece (b ∷ xs) ≡ is_sign (b ∷ xs)) → is_sign (take 2 (b ∷ bs)) ≡ false → is_sign (b ∷ []) ≡ true → longest (b ∷ bs) ≡ Some 1
-unfolding longest
-longest_sign_one b bs each misses is = longest_at (length (b ∷ bs)) 1 (b ∷ bs) (omega arith) (omega arith) (each [] ∙ is) (past_one b bs each misses)
+past_two : (b c : ℕ) (bs : List ℕ) (m : ℕ) → 2 < m → m ≤ length (b ∷ c ∷ bs) → is_sign (take m (b ∷ c ∷ bs)) ≡ false
+past_two b c bs zero low high = absurd (omega arith)
+past_two b c bs (suc zero) low high = absurd (omega arith)
+past_two b c bs (suc (suc zero)) low high = absurd (omega arith)
+past_two b c [] (suc (suc (suc m))) low high = absurd (omega arith)
+past_two b c (d ∷ bs) (suc (suc (suc m))) low high = no_long_sign b c d (take m bs)
 
-pub longest_sign_none : (b : ℕ) (bs : List ℕ) → ((xs : List ℕ) → is_piece (b ∷ xs) ≡ is_sign (b ∷ xs)) → is_sign (take 2 (b ∷ bs)) ≡ false → is_sign (b ∷ []) ≡ false → longest (b ∷ bs) ≡ None
-unfolding longest
-longest_sign_none b bs each misses not_one = longest_none (length (b ∷ bs)) (b ∷ bs) none where
-  none : (m : ℕ) → 0 < m → m ≤ length (b ∷ bs) → is_piece (take m (b ∷ bs)) ≡ false
-  none zero low high = absurd (omega arith)
-  none (suc zero) low high = each [] ∙ not_one
-  none (suc (suc m)) low high = past_one b bs each misses (suc (suc m)) (omega arith) high
+past_one : (b : ℕ) (bs : List ℕ) → is_sign (take 2 (b ∷ bs)) ≡ false → (m : ℕ) → 1 < m → m ≤ length (b ∷ bs) → is_sign (take m (b ∷ bs)) ≡ false
+past_one b bs misses zero low high = absurd (omega arith)
+past_one b bs misses (suc zero) low high = absurd (omega arith)
+past_one b [] misses (suc (suc m)) low high = absurd (omega arith)
+past_one b (c ∷ bs) misses (suc (suc zero)) low high = misses
+past_one b (c ∷ bs) misses (suc (suc (suc m))) low high = past_two b c bs (suc (suc (suc m))) (omega arith) high
+
+not_even_one : (b : ℕ) (bs : List ℕ) → is_sign (take 2 (b ∷ bs)) ≡ false → is_sign (b ∷ []) ≡ false → NoneThat is_sign (b ∷ bs)
+not_even_one b bs misses not_one zero high = is_sign-nil
+not_even_one b bs misses not_one (suc zero) high = not_one
+not_even_one b bs misses not_one (suc (suc m)) high = past_one b bs misses (suc (suc m)) (omega arith) high
+
+one_byte : (b : ℕ) (one : Bool) → is_sign (b ∷ []) ≡ one → IsFrontThat is_sign (b ∷ []) (if one then Some 1 else None)
+one_byte b true h = record { within = omega arith; is = h; longer = λ m low high. absurd (omega arith) }
+one_byte b false h = not_even_one b [] h h
+
+two_bytes : (b c : ℕ) (bs : List ℕ) (two one : Bool) → is_sign (b ∷ c ∷ []) ≡ two → is_sign (b ∷ []) ≡ one → IsFrontThat is_sign (b ∷ c ∷ bs) (if two then Some 2 else (if one then Some 1 else None))
+two_bytes b c bs true one h k = record { within = omega arith; is = h; longer = λ m low high. past_two b c bs m low high }
+two_bytes b c bs false true h k = record { within = omega arith; is = k; longer = λ m low high. past_one b (c ∷ bs) h m low high }
+two_bytes b c bs false false h k = not_even_one b (c ∷ bs) h k
+
+abbrev the_nil : List ℕ
+the_nil = []
+
+-- the longest front that is a sign
+pub sign_front : (bytes : List ℕ) → IsFrontThat is_sign bytes (longest_sign bytes)
+sign_front [] = none where
+  none : (m : ℕ) → m ≤ length (the_nil) → is_sign (take m the_nil) ≡ false
+  none zero high = is_sign-nil
+  none (suc m) high = is_sign-nil
+sign_front (b ∷ []) = one_byte b (is_sign (b ∷ [])) refl
+sign_front (b ∷ c ∷ bs) =
+    let two : nat_le 2 (length (b ∷ c ∷ bs)) ≡ true = grind (arith, nat_tests) in
+    let one : nat_lt 0 (length (b ∷ c ∷ bs)) ≡ true = grind (arith, nat_tests) in
+    let same : longest_sign (b ∷ c ∷ bs) ≡ (if is_sign (b ∷ c ∷ []) then Some 2 else (if is_sign (b ∷ []) then Some 1 else None)) = rw (two, one) refl in
+    subst (IsFrontThat is_sign (b ∷ c ∷ bs)) (sym same) (two_bytes b c bs (is_sign (b ∷ c ∷ [])) (is_sign (b ∷ [])) refl refl)
 
 -- what the longest front says of the fronts
 pub record IsLongestFront (bytes : List ℕ) (most n : ℕ) : Type 0 where

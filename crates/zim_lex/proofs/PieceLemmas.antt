@@ -1,5 +1,5 @@
 -- Which bytes are a piece is decided by the class of the first one.
-use Rattle.std.proofs.Common.{◌≡◌, ℕ, Bool, true, false, ◌&&◌, ◌||◌, List, [], ◌∷◌, refl, ap, sym, ◌∙◌}
+use Rattle.std.proofs.Common.{◌≡◌, ℕ, zero, suc, ◌≤◌, Bool, true, false, ◌&&◌, ◌||◌, List, [], ◌∷◌, take, refl, ap, sym, ◌∙◌, arith}
 use Rattle.std.specs.Prelude.{not}
 use Rattle.std.specs.List.{list_all}
 use Rattle.zim_fault.specs.declared.words.Word.{Word}
@@ -9,15 +9,11 @@ use Rattle.zim_fault.specs.declared.signs.Sign.TheVariants.{SSemicolon}
 use Rattle.zim_fault.specs.Words.{spelling_of_word}
 use Rattle.zim_fault.specs.Signs.{spelling_of_sign}
 use Rattle.zim_lex.specs.Spelled.{word_in, sign_in}
-use Rattle.zim_lex.specs.Classes.{is_blank, begins_comment, is_digit, begins_name, continues_name}
+use Rattle.zim_lex.specs.Classes.{is_blank, begins_comment, is_digit, begins_name, continues_name, begins_fraction, is_quote, starts_number, first_is}
+use Rattle.zim_lex.specs.Numbers.{digits_then, some_digits_then, is_exponent, is_number, is_string}
 use Rattle.zim_lex.specs.Pieces.{is_begun, is_identifier, is_word, is_name, is_sign, is_piece}
 use Rattle.zim_lex.proofs.SpelledLemmas.{of_words, of_signs}
-use Rattle.zim_lex.proofs.ClassLemmas.{is_other, blank_begins_no_comment, blank_begins_no_name, blank_is_no_digit, blank_is_no_other, name_begins_no_digit}
-
--- a text of which the first byte passes
-abbrev pub first_is : (ℕ → Bool) → List ℕ → Bool
-first_is p [] = false
-first_is p (b ∷ bs) = p b
+use Rattle.zim_lex.proofs.ClassLemmas.{is_other, blank_begins_no_comment, blank_begins_no_name, blank_starts_no_number, blank_is_no_quote, blank_is_no_other, name_starts_no_number, name_is_no_quote, quote_starts_no_number}
 
 each_word : (word : Word) → is_identifier (spelling_of_word word) ≡ true
 each_word WSet = refl
@@ -43,15 +39,24 @@ joins false false h = refl
 pub name_or_word : (text : List ℕ) → (is_name text || is_word text) ≡ is_identifier text
 name_or_word text = joins (is_identifier text) (is_word text) (word_is_identifier text)
 
-regroup : (a c n w d s i : Bool) → (n || w) ≡ i → (((((a || c) || n) || w) || d) || s) ≡ ((((a || c) || i) || d) || s)
-regroup true c n w d s i h = refl
-regroup false true n w d s i h = refl
-regroup false false n w d s i h = ap (λ b. (b || d) || s) h
+-- a number's first byte is a digit or a point
+pub number_starts : (b : ℕ) (bs : List ℕ) → starts_number b ≡ false → is_number (b ∷ bs) ≡ false
+number_starts b bs h = at (is_digit b) (begins_fraction b) refl refl h where
+  at : (d f : Bool) → is_digit b ≡ d → begins_fraction b ≡ f → (d || f) ≡ false → is_number (b ∷ bs) ≡ false
+  at true f e g k = cc
+  at false true e g k = cc
+  at false false e g k = rw (e, g) refl
+
+regroup : (a c n w d q s i : Bool) → (n || w) ≡ i → ((((((a || c) || n) || w) || d) || q) || s) ≡ (((((a || c) || i) || d) || q) || s)
+regroup true c n w d q s i h = refl
+regroup false true n w d q s i h = refl
+regroup false false n w d q s i h = ap (λ b. ((b || d) || q) || s) h
 
 -- the classes of a piece that begins with b
-pub is_piece-cons : (b : ℕ) (bs : List ℕ) → is_piece (b ∷ bs) ≡ ((((is_begun is_blank is_blank (b ∷ bs) || begins_comment b) || is_identifier (b ∷ bs)) || is_begun is_digit is_digit (b ∷ bs)) || is_sign (b ∷ bs))
+pub is_piece-cons : (b : ℕ) (bs : List ℕ) → is_piece (b ∷ bs) ≡ (((((is_begun is_blank is_blank (b ∷ bs) || begins_comment b) || is_identifier (b ∷ bs)) || is_number (b ∷ bs)) || is_string (b ∷ bs)) || is_sign (b ∷ bs))
 unfolding is_piece
-is_piece-cons b bs = regroup (is_begun is_blank is_blank (b ∷ bs)) (begins_comment b) (is_name (b ∷ bs)) (is_word (b ∷ bs)) (is_begun is_digit is_digit (b ∷ bs)) (is_sign (b ∷ bs)) (is_identifier (b ∷ bs)) (name_or_word (b ∷ bs))
+is_piece-cons b bs =
+    regroup (is_begun is_blank is_blank (b ∷ bs)) (begins_comment b) (is_name (b ∷ bs)) (is_word (b ∷ bs)) (is_number (b ∷ bs)) (is_string (b ∷ bs)) (is_sign (b ∷ bs)) (is_identifier (b ∷ bs)) (name_or_word (b ∷ bs))
 
 not_true : (x : Bool) → (x ≡ true → ⊥) → x ≡ false
 not_true true h = absurd (h refl)
@@ -61,29 +66,31 @@ not_true false h = refl
 no_sign : (b : ℕ) (bs : List ℕ) → is_other b ≡ false → is_sign (b ∷ bs) ≡ false
 no_sign b bs h = not_true (is_sign (b ∷ bs)) (λ e. let other : is_other b ≡ true = sign_begins (b ∷ bs) e in cc)
 
-is_true : (a b c : Bool) → (((a || b) || c) || true) ≡ true
-is_true true b c = refl
-is_true false true c = refl
-is_true false false true = refl
-is_true false false false = refl
-
-only_first : (a : Bool) → ((((a || false) || false) || false) || false) ≡ a
+only_first : (a : Bool) → (((((a || false) || false) || false) || false) || false) ≡ a
 only_first true = refl
 only_first false = refl
 
-only_third : (a : Bool) → ((a || false) || false) ≡ a
+only_third : (a : Bool) → (((a || false) || false) || false) ≡ a
 only_third true = refl
 only_third false = refl
 
-only_fourth : (a : Bool) → (a || false) ≡ a
-only_fourth true = refl
-only_fourth false = refl
+only_last : (a : Bool) → (a || false) ≡ a
+only_last true = refl
+only_last false = refl
+
+no_others : (a c i q : Bool) → a ≡ false → c ≡ false → i ≡ false → q ≡ false → (d s : Bool) → (((((a || c) || i) || d) || q) || s) ≡ (d || s)
+no_others a c i q ea ec ei eq d s =
+    ap (λ (x : Bool). ((((x || c) || i) || d) || q) || s) ea
+    ∙ ap (λ (x : Bool). (((x || i) || d) || q) || s) ec
+    ∙ ap (λ (x : Bool). ((x || d) || q) || s) ei
+    ∙ ap (λ (x : Bool). (d || x) || s) eq
+    ∙ ap (λ (x : Bool). x || s) (only_last d)
 
 -- blanks
 pub blank_pieces : (b : ℕ) (bs : List ℕ) → is_blank b ≡ true → is_piece (b ∷ bs) ≡ list_all is_blank bs
 blank_pieces b bs h =
     is_piece-cons b bs
-    ∙ rw (h, blank_begins_no_comment b h, blank_begins_no_name b h, blank_is_no_digit b h, no_sign b bs (blank_is_no_other b h)) (only_first (list_all is_blank bs))
+    ∙ rw (h, blank_begins_no_comment b h, blank_begins_no_name b h, number_starts b bs (blank_starts_no_number b h), blank_is_no_quote b h, no_sign b bs (blank_is_no_other b h)) (only_first (list_all is_blank bs))
 
 -- a comment
 pub comment_pieces : (b : ℕ) (bs : List ℕ) → is_blank b ≡ false → begins_comment b ≡ true → is_piece (b ∷ bs) ≡ true
@@ -93,17 +100,35 @@ comment_pieces b bs k h = is_piece-cons b bs ∙ rw (k, h) refl
 pub name_pieces : (b : ℕ) (bs : List ℕ) → is_blank b ≡ false → begins_comment b ≡ false → begins_name b ≡ true → is_piece (b ∷ bs) ≡ list_all continues_name bs
 name_pieces b bs k c h =
     let other : is_other b ≡ false = rw (k, c, h) refl in
-    is_piece-cons b bs ∙ rw (k, c, h, name_begins_no_digit b h, no_sign b bs other) (only_third (list_all continues_name bs))
+    is_piece-cons b bs ∙ rw (k, c, h, number_starts b bs (name_starts_no_number b h), name_is_no_quote b h, no_sign b bs other) (only_third (list_all continues_name bs))
 
--- digits
-pub digit_pieces : (b : ℕ) (bs : List ℕ) → is_blank b ≡ false → begins_comment b ≡ false → begins_name b ≡ false → is_digit b ≡ true → is_piece (b ∷ bs) ≡ list_all is_digit bs
-digit_pieces b bs k c n h =
+-- strings
+pub string_pieces : (b : ℕ) (bs : List ℕ) → is_blank b ≡ false → begins_comment b ≡ false → begins_name b ≡ false → is_quote b ≡ true → is_piece (b ∷ bs) ≡ is_string (b ∷ bs)
+string_pieces b bs k c n h =
     let other : is_other b ≡ false = rw (k, c, n, h) refl in
-    is_piece-cons b bs ∙ rw (k, c, n, h, no_sign b bs other) (only_fourth (list_all is_digit bs))
+    is_piece-cons b bs ∙ rw (k, c, n, number_starts b bs (quote_starts_no_number b h), no_sign b bs other) (only_last (is_string (b ∷ bs)))
 
--- signs
-pub sign_pieces : (b : ℕ) (bs : List ℕ) → is_blank b ≡ false → begins_comment b ≡ false → begins_name b ≡ false → is_digit b ≡ false → is_piece (b ∷ bs) ≡ is_sign (b ∷ bs)
-sign_pieces b bs k c n d = is_piece-cons b bs ∙ rw (k, c, n, d) refl
+-- numbers and signs
+pub other_pieces : (b : ℕ) (bs : List ℕ) → is_blank b ≡ false → begins_comment b ≡ false → begins_name b ≡ false → is_quote b ≡ false → is_piece (b ∷ bs) ≡ (is_number (b ∷ bs) || is_sign (b ∷ bs))
+other_pieces b bs k c n q =
+    is_piece-cons b bs
+    ∙ no_others (is_begun is_blank is_blank (b ∷ bs)) (begins_comment b) (is_identifier (b ∷ bs)) (is_string (b ∷ bs)) (rw k refl) c (rw n refl) (rw q refl) (is_number (b ∷ bs)) (is_sign (b ∷ bs))
+
+-- a text that begins as a number does: with a digit, or with a point and a digit
+abbrev pub begins_number : List ℕ → Bool
+begins_number [] = false
+begins_number (b ∷ bs) = is_digit b || (begins_fraction b && first_is is_digit bs)
+
+each_no_number : (sign : Sign) → not (begins_number (spelling_of_sign sign)) ≡ true
+each_no_number SSemicolon = refl
+each_no_number _ = refl
+
+-- no sign begins as a number does
+pub no_sign_of_number : (text : List ℕ) → begins_number text ≡ true → is_sign text ≡ false
+no_sign_of_number text h = not_true (is_sign text) (λ e. let other : not (begins_number text) ≡ true = of_signs (λ t. not (begins_number t)) each_no_number text e in at (begins_number text) h other) where
+  at : (t : Bool) → t ≡ true → not t ≡ true → ⊥
+  at true e f = cc
+  at false e f = cc
 
 short : List ℕ → Bool
 short [] = true
@@ -125,3 +150,40 @@ no_long_sign a b c more = not_true (is_sign (a ∷ b ∷ c ∷ more)) (λ e. let
 pub is_piece-nil : is_piece [] ≡ false
 unfolding is_piece word_in sign_in
 is_piece-nil = refl
+
+pub is_sign-nil : is_sign [] ≡ false
+unfolding sign_in
+is_sign-nil = refl
+
+-- and a number does
+and_first : (x y : Bool) → (x && y) ≡ true → x ≡ true
+and_first true y h = refl
+and_first false y h = cc
+
+digits_first : (p : List ℕ → Bool) (bs : List ℕ) → some_digits_then p bs ≡ true → first_is is_digit bs ≡ true
+digits_first p [] h = cc
+digits_first p (b ∷ bs) h = and_first (is_digit b) (digits_then p bs) h
+
+pub number_begins : (text : List ℕ) → is_number text ≡ true → begins_number text ≡ true
+number_begins [] h = cc
+number_begins (b ∷ bs) h = at (is_digit b) (begins_fraction b) refl refl where
+  at : (d f : Bool) → is_digit b ≡ d → begins_fraction b ≡ f → begins_number (b ∷ bs) ≡ true
+  at true f e g = rw e refl
+  at false true e g =
+      (let rest : some_digits_then is_exponent bs ≡ true = (let k : is_number (b ∷ bs) ≡ some_digits_then is_exponent bs = rw (e, g) refl in sym k ∙ h) in
+      rw (e, g) (digits_first is_exponent bs rest))
+  at false false e g = (let k : is_number (b ∷ bs) ≡ false = rw (e, g) refl in cc)
+
+-- a longer front begins as a number does, too
+pub begins_longer : (n m : ℕ) (bytes : List ℕ) → begins_number (take n bytes) ≡ true → n ≤ m → begins_number (take m bytes) ≡ true
+begins_longer zero m bytes h low = cc
+begins_longer (suc n) zero bytes h low = absurd (omega arith)
+begins_longer (suc n) (suc m) [] h low = cc
+begins_longer (suc zero) (suc m) (b ∷ bs) h low = at (is_digit b) (begins_fraction b) refl refl where
+  at : (d f : Bool) → is_digit b ≡ d → begins_fraction b ≡ f → begins_number (b ∷ take m bs) ≡ true
+  at true f e g = rw e refl
+  at false true e g = (let k : begins_number (b ∷ []) ≡ false = rw (e, g) refl in cc)
+  at false false e g = (let k : begins_number (b ∷ []) ≡ false = rw (e, g) refl in cc)
+begins_longer (suc (suc n)) (suc zero) (b ∷ bs) h low = absurd (omega arith)
+begins_longer (suc (suc n)) (suc (suc m)) (b ∷ []) h low = h
+begins_longer (suc (suc n)) (suc (suc m)) (b ∷ c ∷ bs) h low = h

@@ -6,7 +6,6 @@ use Rattle.zim_answer.proofs.BindLemmas.{bind_gave, bind_failed}
 use Rattle.zim_answer.proofs.GoesLemmas.{goes-nil, goes-cons}
 use Rattle.zim_fault.specs.declared.faults.Fault as faults
 use Rattle.zim_fault.specs.declared.kinds.Kind.{Kind}
-use Rattle.zim_fault.specs.declared.kinds.Kind.TheVariants.{BadByte}
 use Rattle.zim_fault.specs.declared.tokens.Placed.{Placed}
 use Rattle.zim_answer.specs.Gives.{Stops}
 use Rattle.zim_lex.specs.declared.lines.Line.{Line}
@@ -17,10 +16,6 @@ use Rattle.zim_lex.specs.Cut.{IsStuck, cut}
 use Rattle.zim_lex.specs.Tokens.{tokens_at, AreLineTokens, AreTokens, none, more, IsFirstStuck, here, later, met_at, line_tokens, with_line, tokens_of}
 use Rattle.zim_lex.proofs.CutLemmas.{cut_is, cut_fails}
 
--- the fault of a line that is stuck
-abbrev pub bad_byte : Line → faults.Fault
-bad_byte line = record { place = line.place; kind = BadByte }
-
 line_tokens_are : (line : Line) (tokens : List Placed) → line_tokens line ≡ Ok tokens → AreLineTokens line tokens
 unfolding line_tokens
 line_tokens_are line tokens h = at (cut line.bytes) refl h where
@@ -28,15 +23,12 @@ line_tokens_are line tokens h = at (cut line.bytes) refl h where
   at (Ok pieces) e f = record { pieces = pieces; cut = cut_is line.bytes pieces e; tokens_are = (let same : tokens_at line.place pieces ≡ tokens = cc in sym same) }
   at (Err kind) e f = cc
 
-line_stuck : (line : Line) (fault : faults.Fault) → line_tokens line ≡ Err fault → IsStuck line.bytes × (bad_byte line ≡ fault)
+line_stuck : (line : Line) (fault : faults.Fault) → line_tokens line ≡ Err fault → (kind : Kind) × IsStuck line.bytes kind × (record { place = line.place; kind = kind } ≡ fault)
 unfolding line_tokens
 line_stuck line fault h = at (cut line.bytes) refl h where
-  at : (pieces : Answer (List (List ℕ)) Kind) → cut line.bytes ≡ pieces → (met_at line.place pieces >>= λ ps. Ok (tokens_at line.place ps)) ≡ Err fault → IsStuck line.bytes × (bad_byte line ≡ fault)
+  at : (pieces : Answer (List (List ℕ)) Kind) → cut line.bytes ≡ pieces → (met_at line.place pieces >>= λ ps. Ok (tokens_at line.place ps)) ≡ Err fault → (kind : Kind) × IsStuck line.bytes kind × (record { place = line.place; kind = kind } ≡ fault)
   at (Ok pieces) e f = cc
-  at (Err kind) e f =
-      (let stuck = cut_fails line.bytes kind e in
-      let same : record { place = line.place; kind = kind } ≡ fault = cc in
-      (stuck.0, ap (λ (k : Kind). record { place = line.place; kind = k }) (sym stuck.1) ∙ same))
+  at (Err kind) e f = (let same : record { place = line.place; kind = kind } ≡ fault = cc in (kind, cut_fails line.bytes kind e, same))
 
 goes_are : (so_far all : List Placed) (lines : List Line) → goes with_line so_far lines ≡ Ok all → (tokens : List Placed) × (so_far ++ tokens ≡ all) × AreTokens lines tokens
 goes_are so_far all [] h = ([], (let e : Ok so_far ≡ Ok all = sym (goes-nil with_line so_far) ∙ h in append-nil so_far ∙ cc), none)
@@ -52,7 +44,7 @@ goes_stops so_far fault [] h = (let e : Ok so_far ≡ Err fault = sym (goes-nil 
 goes_stops so_far fault (line ∷ lines) h =
     elim (bind_failed (with_line so_far line) _ fault (sym (goes-cons with_line so_far line lines) ∙ h)) [
       | inl at_line ↦ elim (bind_failed (line_tokens line) _ fault at_line) [
-        | inl stops ↦ (let stuck = line_stuck line fault stops in subst (IsFirstStuck (line ∷ lines)) stuck.1 (here line lines stuck.0))
+        | inl stops ↦ (let (kind, stuck, same) = line_stuck line fault stops in subst (IsFirstStuck (line ∷ lines)) same (here line lines kind stuck))
         | inr never ↦ (let (tokens, gave, e) = never in cc)
       ]
       | inr after ↦ (let (next, one, rest) = after in

@@ -2,7 +2,8 @@
 use Rattle.std.specs.Prelude.{◌≡◌, ℕ, zero, suc, ◌<◌, ◌≤◌, List, [], ◌∷◌, ◌++◌, length, take, drop, true, false, if◌then◌else◌, Option, Some, None, Ok, Err}
 use Rattle.zim_answer.specs.Answer.{Answer, ◌>>=◌}
 use Rattle.zim_fault.specs.declared.kinds.Kind.{Kind}
-use Rattle.zim_fault.specs.declared.kinds.Kind.TheVariants.{BadByte}
+use Rattle.zim_fault.specs.declared.kinds.Kind.TheVariants.{BadByte, OpenString}
+use Rattle.zim_lex.specs.Classes.{is_quote}
 use Rattle.zim_lex.specs.Pieces.{is_piece}
 
 -- the pieces one after another, and then the rest
@@ -25,14 +26,19 @@ pub record IsCut (line : List ℕ) (pieces : List (List ℕ)) : Type 0 where
   pub spelled : joined pieces [] ≡ line
   pub longest : AreLongest pieces []
 
--- after some pieces comes a byte that begins none
-pub record IsStuck (line : List ℕ) : Type 0 where
+-- the fault of a byte that begins no piece: of a quote, that it isn't closed on its line
+abbrev pub stuck_at : ℕ → Kind
+stuck_at b = if is_quote b then OpenString else BadByte
+
+-- after some pieces comes a byte that begins none, which is this fault
+pub record IsStuck (line : List ℕ) (kind : Kind) : Type 0 where
   pub pieces : List (List ℕ)
   pub byte : ℕ
   pub after : List ℕ
   pub spelled : joined pieces (byte ∷ after) ≡ line
   pub longest : AreLongest pieces (byte ∷ after)
   pub begins_none : (n : ℕ) → is_piece (take n (byte ∷ after)) ≡ false
+  pub met : stuck_at byte ≡ kind
 
 -- the greatest number up to `most` of bytes at the front that are a piece
 abbrev pub longest_up_to : ℕ → List ℕ → Option ℕ
@@ -43,17 +49,17 @@ longest_up_to (suc n) bytes = if is_piece (take (suc n) bytes) then Some (suc n)
 unfoldable pub longest : List ℕ → Option ℕ
 longest bytes = longest_up_to (length bytes) bytes
 
--- the length that is found, or the fault of a byte that begins no piece
-abbrev pub or_bad_byte : Option ℕ → Answer ℕ Kind
-or_bad_byte (Some n) = Ok n
-or_bad_byte None = Err BadByte
+-- the length that is found, or the fault of the byte that begins no piece
+abbrev pub or_stuck : ℕ → Option ℕ → Answer ℕ Kind
+or_stuck b (Some n) = Ok n
+or_stuck b None = Err (stuck_at b)
 
 -- the pieces from left to right, at most so many: a line has no more than bytes
 unfoldable pub cut_up_to : ℕ → List ℕ → Answer (List (List ℕ)) Kind
 cut_up_to most [] = Ok []
 cut_up_to zero (byte ∷ bytes) = Ok []
 cut_up_to (suc most) (byte ∷ bytes) = do
-  n ← or_bad_byte (longest (byte ∷ bytes))
+  n ← or_stuck byte (longest (byte ∷ bytes))
   others ← cut_up_to most (drop n (byte ∷ bytes))
   Ok (take n (byte ∷ bytes) ∷ others)
 

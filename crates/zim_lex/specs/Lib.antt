@@ -1,8 +1,14 @@
 pub mod Causes
 pub mod Classes
 pub mod Cut
+pub mod Expanded
+pub mod Expanding
+pub mod Fronts
+pub mod Includes
 pub mod Lines
 pub mod Loading
+pub mod Numbers
+pub mod Opened
 pub mod Pieces
 pub mod Reading
 pub mod Signs
@@ -10,3 +16,4 @@ pub mod Spelled
 pub mod Statements
 pub mod Text
 pub mod Tokens
+pub mod Unread

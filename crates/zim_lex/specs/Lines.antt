@@ -1,9 +1,6 @@
 -- The lines of a text, and the line of a byte.
-use Rattle.std.specs.Prelude.{ℕ, ◌+◌, ◌<◌, List, [], ◌∷◌, length, take, count_by, sum_by, All, ◌≤◌, ◌==◌, nat_lt, if◌then◌else◌, Ok, Err}
+use Rattle.std.specs.Prelude.{ℕ, ◌+◌, ◌<◌, List, [], ◌∷◌, length, take, count_by, sum_by, All, ◌≤◌, ◌==◌, if◌then◌else◌}
 use Rattle.std.specs.List.{slice_split}
-use Rattle.zim_answer.specs.Answer.{Answer}
-use Rattle.zim_fault.specs.declared.faults.Fault.{Fault}
-use Rattle.zim_fault.specs.declared.kinds.Kind.TheVariants.{LongFile}
 use Rattle.zim_lex.specs.declared.lines.Line.{Line}
 
 -- how many bytes the files of a model may have together
@@ -29,14 +26,11 @@ abbrev pub placed_lines : ℕ → ℕ → List (List ℕ) → List Line
 placed_lines file number [] = []
 placed_lines file number (line ∷ lines) = record { place = record { file = file; line = number }; bytes = line } ∷ placed_lines file (number + 1) lines
 
--- the lines of the one file of a model, or the fault of a file that is too long
-unfoldable pub lines_or_fault : List ℕ → Answer (List Line) Fault
-lines_or_fault text =
-    if nat_lt most_bytes (length text)
-    then Err (record { place = record { file = 0; line = line_of_byte text most_bytes }; kind = LongFile })
-    else Ok (placed_lines 0 1 (lines_of text))
+-- how many bytes some lines have together
+abbrev pub bytes_of : List Line → ℕ
+bytes_of lines = sum_by (λ line. length line.bytes) lines
 
 -- lines that are within the limit and in so many files
 pub record AreWithin (lines : List Line) (files : ℕ) : Type 0 where
-  pub bytes : sum_by (λ line. length line.bytes) lines ≤ most_bytes
+  pub bytes : bytes_of lines ≤ most_bytes
   pub places : All (λ line. line.place.file < files) lines

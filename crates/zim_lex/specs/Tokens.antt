@@ -4,7 +4,6 @@ use Rattle.zim_answer.specs.Answer.{Answer, ◌>>=◌, goes}
 use Rattle.zim_fault.specs.declared.faults.Place.{Place}
 use Rattle.zim_fault.specs.declared.faults.Fault.{Fault}
 use Rattle.zim_fault.specs.declared.kinds.Kind.{Kind}
-use Rattle.zim_fault.specs.declared.kinds.Kind.TheVariants.{BadByte}
 use Rattle.zim_fault.specs.declared.tokens.Token.{Token}
 use Rattle.zim_fault.specs.declared.tokens.Placed.{Placed}
 use Rattle.zim_lex.specs.declared.lines.Line.{Line}
@@ -33,7 +32,7 @@ pub data AreTokens : List Line → List Placed → Type 0 where
 
 -- the fault of the first line with a byte that begins no piece
 pub data IsFirstStuck : List Line → Fault → Type 0 where
-  here : (line : Line) (lines : List Line) → IsStuck line.bytes → IsFirstStuck (line ∷ lines) (record { place = line.place; kind = BadByte })
+  here : (line : Line) (lines : List Line) (kind : Kind) → IsStuck line.bytes kind → IsFirstStuck (line ∷ lines) (record { place = line.place; kind = kind })
   later : (line : Line) (lines : List Line) (tokens : List Placed) (fault : Fault) → AreLineTokens line tokens → IsFirstStuck lines fault → IsFirstStuck (line ∷ lines) fault
 
 -- a fault of a kind that is met at a place

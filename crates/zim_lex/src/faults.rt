@@ -1,6 +1,5 @@
 ghost use Rattle.std.specs.Prelude.{◌≡◌};
 ghost use Rattle.zim_lex.specs.declared.faults.LexFault.TheVariants as lexing;
-ghost use Rattle.zim_lex.specs.declared.faults.LoadFault.TheVariants as loading;
 
 use std::alloc::{AllocError, AllocFailed};
 use zim_fault::{Bytes, Fault, Files, Memory};
@@ -8,7 +7,7 @@ use zim_fault::{Bytes, Fault, Files, Memory};
 /// Why a model's files could not be loaded.
 #[derive(Debug, Drop)]
 pub enum LoadFault {
-    /// `LongFile`, and the names of the files that were opened.
+    /// `LongFile` or `IncludeDeep`, and the names of the files that were opened.
     Fault(Fault, Files),
     /// The name of a file that isn't there or couldn't be read.
     Read(Bytes),
@@ -19,7 +18,7 @@ pub enum LoadFault {
 /// Why lines have no tokens, or tokens no statements.
 #[derive(Debug, Drop)]
 pub enum LexFault {
-    /// `BadByte` from `lex`, `OpenStatement` from `statements`.
+    /// `BadByte` or `OpenString` from `lex`, `OpenStatement` from `statements`.
     Fault(Fault),
     /// Memory was refused.
     Memory,
@@ -30,14 +29,6 @@ impl From<Memory> for LexFault {
 
     fn from(_refused: Memory) -> LexFault {
         LexFault::Memory
-    }
-}
-
-impl From<Memory> for LoadFault {
-    ghost from_gives = { λ _ e. e ≡ loading.Memory };
-
-    fn from(_refused: Memory) -> LoadFault {
-        LoadFault::Memory
     }
 }
 

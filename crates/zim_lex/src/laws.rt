@@ -1,6 +1,7 @@
-ghost use Rattle.std.specs.Prelude.{◌≡◌, ◌↔◌, ℕ, List, Ok, Err};
-ghost use Rattle.zim_fault.specs.declared.kinds.Kind.TheVariants.{BadByte};
+ghost use Rattle.std.specs.Prelude.{◌≡◌, ◌↔◌, ℕ, List, Ok, Err, Some};
+ghost use Rattle.zim_fault.specs.declared.kinds.Kind.{Kind};
 ghost use Rattle.zim_lex.specs.Cut.{IsCut, IsStuck, cut};
+ghost use Rattle.zim_lex.specs.Includes.{IsInclude, included};
 
 /// A line has at most one list of pieces of which none could be longer where it begins, and cutting
 /// it from left to right gives that list, or stops exactly where a byte begins no piece.
@@ -9,5 +10,13 @@ ghost use Rattle.zim_lex.specs.Cut.{IsCut, IsStuck, cut};
 pub fn cutting_is_exact()
     ensures one { (line : List ℕ) (first second : List (List ℕ)) → IsCut line first → IsCut line second → first ≡ second }
     ensures cut { (line : List ℕ) (pieces : List (List ℕ)) → IsCut line pieces ↔ (cut line ≡ Ok pieces) }
-    ensures stuck { (line : List ℕ) → IsStuck line ↔ (cut line ≡ Err BadByte) }
+    ensures stuck { (line : List ℕ) (kind : Kind) → IsStuck line kind ↔ (cut line ≡ Err kind) }
+{}
+
+/// A line includes a file exactly where it is blanks, `include`, blanks, the file's name in double
+/// quotes, blanks and maybe a comment.
+///
+/// A law for those who prove: the call does nothing.
+pub fn include_lines_are_exact()
+    ensures { (line name : List ℕ) → IsInclude line name ↔ (included line ≡ Some name) }
 {}

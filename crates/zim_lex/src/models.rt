@@ -1,65 +1,52 @@
-ghost use Rattle.std.specs.Prelude.{◌≡◌, [], ◌∷◌, IfOk};
-ghost use Rattle.zim_gate.specs.declared.stops.OpenStop.TheVariants as open_stop;
-ghost use Rattle.zim_lex.specs.Loading.{Loads, IsUnread};
-ghost use Rattle.zim_lex.specs.declared.faults.LoadFault.TheVariants as faults;
+ghost use Rattle.std.specs.Prelude.{◌≡◌};
+ghost use Rattle.zim_lex.specs.Loading as faults;
+ghost use Rattle.zim_lex.specs.Loading.{Loads};
 
+use crate::expanding::{Expansion, Stop, expand};
 use crate::faults::LoadFault;
 use crate::lines::Loaded;
-use crate::reading::{ReadStop, read_lines};
+use crate::reading::MOST_BYTES;
 use std::alloc::Global;
-use zim_fault::{Bytes, Fault, Files, Kind, Memory, Place};
-use zim_gate::{Folder, OpenStop};
+use zim_fault::{Files, Sequence};
+use zim_gate::Folder;
 
-/// The list of one file.
-fn one_file(alloc: Global, name: &[u8]) -> Result<Files, Memory>
-    ensures { IfOk result (λ files. files ≡ name.now ∷ []) }
-{
-    let mut files = Files::new(alloc);
-    files.push(Bytes::from_slice(alloc, name)?)?;
-    Ok(files)
-}
+/// How deep files may include one another, the model itself being the first.
+const MOST_DEPTH: u32 = 16;
 
-/// The refusal of a file that wasn't read.
-fn unread(alloc: Global, name: &[u8]) -> LoadFault
-    ensures { IsUnread name.now result }
-{
-    match Bytes::from_slice(alloc, name) {
-        Ok(name) => LoadFault::Read(name),
-        Err(_) => LoadFault::Memory,
-    }
-}
-
-/// The refusal of a file that wasn't opened.
-fn unopened(alloc: Global, name: &[u8], stop: OpenStop) -> LoadFault
-    ensures unread { IsUnread name.now result }
-    ensures memory { stop ≡ open_stop.Memory → result ≡ faults.Memory }
+/// The fault of a load that stopped after these files were opened.
+fn load_fault(stop: Stop, files: Files) -> LoadFault
+    ensures { result ≡ faults.load_fault stop files }
 {
     match stop {
-        OpenStop::Missing | OpenStop::Failed => unread(alloc, name),
-        OpenStop::Memory => LoadFault::Memory,
+        Stop::Fault(fault) => LoadFault::Fault(fault, files),
+        Stop::Read(name) => LoadFault::Read(name),
+        Stop::Memory => LoadFault::Memory,
     }
 }
 
-/// Loads a model: the lines of its file, numbered from 1.
+/// Loads a model: the lines of its file, each include line replaced by the lines of the file that it
+/// names. Blanks aside, such a line is `include`, a name in double quotes and maybe a comment.
 ///
-/// The file may have 67,108,864 bytes. `LongFile` comes at the line of the first byte past them, and
-/// a byte 10 belongs to the line that it ends. `Read` comes where the file isn't there or the folder
-/// failed, which its count of read faults tells.
+/// The files together may have 67,108,864 bytes. `LongFile` comes at the line of the first byte past
+/// them, when the file is opened, and a byte 10 belongs to the line that it ends. `IncludeDeep` comes
+/// at an include line of a file that is the sixteenth of those that include one another. `Read` comes
+/// where a file isn't there or the folder failed, which its count of read faults tells.
 pub fn load<F: Folder>(alloc: Global, folder: &mut F, name: &[u8]) -> Result<Loaded, LoadFault>
     ensures { Loads (F.state folder.old) (F.state folder.new) name.now result }
 {
-    if let Err(stop) = folder.open(name) {
-        return Err(unopened(alloc, name, stop));
-    }
-    let files = one_file(alloc, name)?;
-    match read_lines(alloc, folder) {
-        Ok(lines) => Ok(Loaded { lines, files }),
-        Err(ReadStop::Long(line)) => {
-            let place = Place { file: 0, line };
-            let kind = Kind::LongFile;
-            Err(LoadFault::Fault(Fault { place, kind }, files))
-        }
-        Err(ReadStop::Failed) => Err(unread(alloc, name)),
-        Err(ReadStop::Memory) => Err(LoadFault::Memory),
+    let mut all = Expansion {
+        lines: Sequence::new(alloc),
+        files: Files::new(alloc),
+        room: MOST_BYTES,
+    };
+    let result = expand(alloc, folder, name, MOST_DEPTH - 1, &mut all);
+    let Expansion {
+        lines,
+        files,
+        room: _,
+    } = all;
+    match result {
+        Ok(()) => Ok(Loaded { lines, files }),
+        Err(stop) => Err(load_fault(stop, files)),
     }
 }

@@ -1,10 +1,12 @@
 ghost use Rattle.std.specs.Prelude.{◌≡◌, ◌+◌, ◌≤◌, ◌<◌, length, take, Some, None, if◌then◌else◌, IfOk, true};
 ghost use Rattle.std.specs.List.{prefix_len};
+ghost use Rattle.zim_fault.specs.declared.tokens.Token.TheVariants as tokens;
 ghost use Rattle.zim_lex.specs.Classes as class;
 ghost use Rattle.zim_lex.specs.Cut.{longest};
 ghost use Rattle.zim_lex.specs.Signs.{longest_sign};
 ghost use Rattle.zim_lex.specs.Pieces.{is_piece, token_of};
 
+use crate::numbers::{is_digit, number_length, string_length};
 use crate::signs::sign_of;
 use std::alloc::Global;
 use zim_fault::{Bytes, Memory, Token, word_of};
@@ -15,16 +17,22 @@ fn is_blank(byte: u8) -> bool
     byte == b' ' || byte == b'\t' || byte == b'\r'
 }
 
-fn is_digit(byte: u8) -> bool
-    ensures { result ≡ class.is_digit byte }
-{
-    b'0' <= byte && byte <= b'9'
-}
-
 fn begins_name(byte: u8) -> bool
     ensures { result ≡ class.begins_name byte }
 {
     b'A' <= byte && byte <= b'Z' || b'a' <= byte && byte <= b'z' || byte == b'_'
+}
+
+pub fn is_quote(byte: u8) -> bool
+    ensures { result ≡ class.is_quote byte }
+{
+    byte == b'"' || byte == b'\''
+}
+
+fn starts_number(byte: u8) -> bool
+    ensures { result ≡ class.starts_number byte }
+{
+    is_digit(byte) || byte == b'.'
 }
 
 fn continues_name(byte: u8) -> bool
@@ -34,17 +42,10 @@ fn continues_name(byte: u8) -> bool
 }
 
 /// How many bytes at the front are blanks.
-fn count_blanks(bytes: &[u8]) -> usize
+pub fn count_blanks(bytes: &[u8]) -> usize
     ensures { result ≡ prefix_len class.is_blank bytes.now }
 {
     bytes.iter().take_while(|byte| is_blank(**byte)).count()
-}
-
-/// How many bytes at the front are digits.
-fn count_digits(bytes: &[u8]) -> usize
-    ensures { result ≡ prefix_len class.is_digit bytes.now }
-{
-    bytes.iter().take_while(|byte| is_digit(**byte)).count()
 }
 
 /// How many bytes at the front can stand in a name.
@@ -84,11 +85,24 @@ pub fn piece_length(bytes: &[u8]) -> Option<usize>
         Some(bytes.len())
     } else if begins_name(first) {
         Some(count_name_bytes(bytes))
-    } else if is_digit(first) {
-        Some(count_digits(bytes))
+    } else if is_quote(first) {
+        string_length(bytes)
     } else {
-        sign_length(bytes)
+        match number_length(bytes) {
+            Some(length) => Some(length),
+            None => sign_length(bytes),
+        }
     }
+}
+
+/// The number that a piece is, or `None` where its first byte begins none.
+fn number_in(alloc: Global, piece: &[u8], first: u8) -> Result<Option<Token>, Memory>
+    ensures { IfOk result (λ token. token ≡ (if class.starts_number first then Some (tokens.Number piece.now) else None)) }
+{
+    if !starts_number(first) {
+        return Ok(None);
+    }
+    Ok(Some(Token::Number(Bytes::from_slice(alloc, piece)?)))
 }
 
 /// The token that a piece spells, or `None` for blanks and comments.
@@ -102,12 +116,13 @@ pub fn token_in(alloc: Global, piece: &[u8]) -> Result<Option<Token>, Memory>
             Some(word) => Ok(Some(Token::Word(word))),
             None => Ok(Some(Token::Name(Bytes::from_slice(alloc, piece)?))),
         }
-    } else if is_digit(first) {
-        Ok(Some(Token::Number(Bytes::from_slice(alloc, piece)?)))
+    } else if is_quote(first) {
+        let text = Bytes::from_slice(alloc, &piece[1..piece.len() - 1])?;
+        Ok(Some(Token::Text(text, first == b'"')))
     } else {
         match sign_of(piece) {
             Some(sign) => Ok(Some(Token::Sign(sign))),
-            None => Ok(None),
+            None => number_in(alloc, piece, first),
         }
     }
 }

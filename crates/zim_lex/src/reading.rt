@@ -1,5 +1,5 @@
-ghost use Rattle.std.specs.Prelude.{◌≡◌, IfOk};
-ghost use Rattle.zim_lex.specs.Lines.{AreWithin};
+ghost use Rattle.std.specs.Prelude.{◌≡◌, ◌+◌, ◌≤◌, IfOk};
+ghost use Rattle.zim_lex.specs.Lines.{most_bytes, bytes_of};
 ghost use Rattle.zim_lex.specs.Reading.{OnlyRead, IsReadOf};
 ghost use Rattle.zim_gate.specs.Counts.{Rose};
 ghost use Rattle.zim_lex.specs.declared.reading.ReadStop.TheVariants as stops;
@@ -35,22 +35,37 @@ impl From<Memory> for ReadStop {
     }
 }
 
-/// Reads the file that is open to its end. Its lines are numbered from 1, in the file 0.
-pub fn read_lines<F: Folder>(alloc: Global, folder: &mut F) -> Result<Sequence<Line>, ReadStop>
+/// A file that was read to its end.
+#[derive(Drop)]
+pub struct ReadText {
+    /// Its lines, numbered from 1, in the file 0.
+    pub lines: Sequence<Line>,
+    /// How many bytes the files after it may have together.
+    pub room: usize,
+}
+
+/// Reads the file that is open to its end, where so many bytes are still allowed.
+pub fn read_lines<F: Folder>(
+    alloc: Global,
+    folder: &mut F,
+    most: usize,
+) -> Result<ReadText, ReadStop>
+    requires { most ≤ most_bytes }
     ensures only { OnlyRead (F.state folder.old) (F.state folder.new) }
     ensures begun { (F.state folder.new).begun ≡ (F.state folder.old).begun }
-    ensures within { IfOk result (λ lines. AreWithin lines 1) }
-    ensures text { IsReadOf (F.state folder.old).rest (Rose (F.state folder.old).read_faults (F.state folder.new).read_faults) result }
+    ensures within { IfOk result (λ read. bytes_of read.lines + read.room ≤ most) }
+    ensures text { IsReadOf most (F.state folder.old).rest (Rose (F.state folder.old).read_faults (F.state folder.new).read_faults) result }
 {
     let mut text = TextLines::new(alloc);
-    let mut room = MOST_BYTES;
+    let mut room = most;
     let mut buffer = [0; PIECE];
     loop {
         let Ok(count) = folder.read(&mut buffer) else {
             return Err(ReadStop::Failed);
         };
         if count == 0 {
-            return Ok(text.finish()?);
+            let lines = text.finish()?;
+            return Ok(ReadText { lines, room });
         }
         if count > room {
             text.add(&buffer[..room])?;

@@ -17,15 +17,28 @@ struct Ran {
     err: MemorySink,
 }
 
+/// A folder of these names and texts, in which no call fails.
+fn folder_of(alloc: Global, texts: &[(&[u8], &[u8])], room: usize) -> Result<MemoryFolder, Fail> {
+    let mut files = Vec::new(alloc);
+    for (name, text) in texts {
+        files.push((
+            Bytes::from_slice(alloc, name)?,
+            Bytes::from_slice(alloc, text)?,
+        ))?;
+    }
+    Ok(MemoryFolder::new(alloc, files, room, Vec::new(alloc))?)
+}
+
 /// Runs the command over a folder that holds the model `m.zpl`.
 fn outcome_of(alloc: Global, model: &[u8], words: &[&str], room: usize) -> Result<Ran, Fail> {
-    let mut files = Vec::new(alloc);
-    files.push((
-        Bytes::from_slice(alloc, b"m.zpl")?,
-        Bytes::from_slice(alloc, model)?,
-    ))?;
-    let folder = MemoryFolder::new(alloc, files, room, Vec::new(alloc))?;
+    let folder = folder_of(alloc, &[(b"m.zpl", model)], room)?;
     outcome_in(alloc, folder, words)
+}
+
+/// Runs the usual command over a folder that holds the model `m.zpl` and a file `v.zpl`.
+fn outcome_with(alloc: Global, model: &[u8], included: &[u8]) -> Result<Ran, Fail> {
+    let folder = folder_of(alloc, &[(b"m.zpl", model), (b"v.zpl", included)], ROOM)?;
+    outcome_in(alloc, folder, &COMPILE)
 }
 
 /// Runs the command over a folder.
@@ -208,7 +221,9 @@ fn models_that_are_refused(rt: HostRuntime) -> Result<(), Fail> {
         "var x; minimize o: 0*x;",
         "var x; minimize o: 1234567890123456789*x;",
         "var min;",
-        "var \0;",
+        "var x; subto a: 1.5*x >= 1;",
+        "var x; subto a: x >= 1e2;",
+        "var x; subto a: x >= '1';",
     ] {
         let ran = outcome_of(rt.alloc(), text.as_bytes(), &COMPILE, ROOM)?;
         assert!(rt; ran.status == Status::Refused);
@@ -230,8 +245,11 @@ fn faults_with_their_lines(rt: HostRuntime) -> Result<(), Fail> {
             "subto a b;\nvar x",
             b"m.zpl:2: 6 OpenStatement\n".as_slice(),
         ),
-        ("var x;\n&", b"m.zpl:2: 5 Syntax\n".as_slice()),
-        ("subto a b\n\n&", b"m.zpl:3: 5 Syntax\n".as_slice()),
+        ("param p := 1 $;", b"m.zpl:1: 1 BadByte\n".as_slice()),
+        ("param p := \"a;", b"m.zpl:1: 2 OpenString\n".as_slice()),
+        ("param p := 1", b"m.zpl:1: 6 OpenStatement\n".as_slice()),
+        ("subto a b\n\n&", b"m.zpl:3: 1 BadByte\n".as_slice()),
+        ("var x;\n'\n&", b"m.zpl:2: 2 OpenString\n".as_slice()),
     ] {
         let ran = outcome_of(rt.alloc(), text.as_bytes(), &COMPILE, ROOM)?;
         assert!(rt; ran.status == Status::Refused);
@@ -258,6 +276,52 @@ fn a_model_that_is_missing(rt: HostRuntime) -> Result<(), Fail> {
     let ran = outcome_of(rt.alloc(), b"", &["no.zpl", "--out", "m"], ROOM)?;
     assert!(rt; ran.status == Status::ReadFault);
     assert!(rt; ran.err.taken() == b"zimplc: cannot read no.zpl\n".as_slice());
+    Ok(())
+}
+
+#[test]
+fn an_include_line_is_replaced(rt: HostRuntime) -> Result<(), Fail> {
+    let ran = outcome_with(rt.alloc(), b"include \"v.zpl\"", TWO_VARIABLES_MODEL)?;
+    assert!(rt; ran.status == Status::Done);
+    assert!(rt; ran.folder.bytes_of(b"m.lp") == Some(TWO_VARIABLES));
+    assert!(rt; ran.folder.bytes_of(b"m.mps") == Some(TWO_VARIABLES_MPS));
+    assert!(rt; ran.folder.bytes_of(b"m.tbl") == Some(TWO_VARIABLES_TABLE));
+    Ok(())
+}
+
+#[test]
+fn a_fault_of_an_included_file(rt: HostRuntime) -> Result<(), Fail> {
+    for (model, included, line) in [
+        (
+            b"include \"m.zpl\"\n".as_slice(),
+            b"".as_slice(),
+            b"m.zpl:1: 3 IncludeDeep\n".as_slice(),
+        ),
+        (
+            b"var x;\ninclude \"v.zpl\"\nvar y;".as_slice(),
+            b"\nvar x;".as_slice(),
+            b"v.zpl:2: 5 Syntax\n".as_slice(),
+        ),
+        (
+            b"include \"v.zpl\"\nvar x".as_slice(),
+            b"var y;".as_slice(),
+            b"m.zpl:2: 6 OpenStatement\n".as_slice(),
+        ),
+    ] {
+        let ran = outcome_with(rt.alloc(), model, included)?;
+        assert!(rt; ran.status == Status::Refused);
+        assert!(rt; ran.err.taken() == line);
+        assert!(rt; ran.folder.bytes_of(b"m.tbl") == None);
+    }
+    Ok(())
+}
+
+#[test]
+fn an_included_file_that_is_missing(rt: HostRuntime) -> Result<(), Fail> {
+    let ran = outcome_with(rt.alloc(), b"subto a b;\ninclude \"no.zpl\"", b"")?;
+    assert!(rt; ran.status == Status::ReadFault);
+    assert!(rt; ran.err.taken() == b"zimplc: cannot read no.zpl\n".as_slice());
+    assert!(rt; ran.folder.bytes_of(b"m.tbl") == None);
     Ok(())
 }
 

@@ -1,4 +1,3 @@
-use Rattle.zim_fault.specs.declared.kinds.Kind.TheVariants.{BadByte}
 use Rattle.zim_lex.proofs.CutLemmas.{cut_is, is_cut, one_cut, cut_fails, is_stuck}
 use Rattle.zim_lex.proofs.laws.cutting_is_exact.Goals as goal
 
@@ -9,4 +8,4 @@ pub returns-clause-cut : goal.returns-clause-cut
 returns-clause-cut c = λ line pieces. (λ whole. is_cut pieces line whole, λ h. cut_is line pieces h)
 
 pub returns-clause-stuck : goal.returns-clause-stuck
-returns-clause-stuck c = λ line. (λ stuck. is_stuck line stuck, λ h. (let both = cut_fails line BadByte h in both.0))
+returns-clause-stuck c = λ line kind. (λ stuck. is_stuck line kind stuck, λ h. cut_fails line kind h)

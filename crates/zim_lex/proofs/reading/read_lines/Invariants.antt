@@ -1,7 +1,6 @@
 -- What is taken and what is left are the file that was open, and what is taken and the room are the limit.
 use Rattle.std.proofs.Common.{◌≡◌, ◌+◌, length}
 use Rattle.std.specs.Io.KnownBytes.{prepend_known}
-use Rattle.zim_lex.specs.Lines.{most_bytes}
 use Rattle.zim_lex.specs.Reading.{OnlyRead}
 use Rattle.zim_lex.proofs.reading.read_lines.Given as goal
 
@@ -12,7 +11,7 @@ invariant-loop-count g l =
       only : OnlyRead (state l.fn.folder) (state l.folder);
       begun : (state l.folder).begun ≡ (state l.fn.folder).begun;
       taken : (state l.fn.folder).rest ≡ prepend_known l.text (state l.folder).rest;
-      limit : l.room + length l.text ≡ most_bytes;
+      limit : l.room + length l.text ≡ l.most;
     }
 
 abbrev pub decreases-loop-count : goal.decreases-loop-count

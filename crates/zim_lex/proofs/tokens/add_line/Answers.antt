@@ -1,5 +1,6 @@
 -- Each turn takes one piece from the front of what is left.
-use Rattle.std.proofs.Common.{◌≡◌, ◌<◌, ◌∙◌, sym, Some, None, length, drop}
+use Rattle.std.proofs.Common.{◌≡◌, ◌<◌, ◌∙◌, sym, ap, Err, Some, None, length, drop}
+use Rattle.zim_fault.specs.declared.kinds.Kind.{Kind}
 use Rattle.zim_lex.specs.Cut.{longest}
 use Rattle.zim_lex.proofs.FrontLemmas.{no_bytes, some_bytes}
 use Rattle.zim_lex.proofs.LineLemmas.{line_left, with_bytes-turn, with_bytes-stuck, with_bytes-done, fewer_left, piece_in, is_front}
@@ -13,6 +14,7 @@ returns-in_default c =
     let none : longest c.loop-rest.rest.now ≡ None = sym c.piece_length.ensures ∙ c.in_default.is in
     sym c.loop-rest.invariant
     ∙ with_bytes-stuck c.loop-rest.tokens.items c.args.line.now.place c.loop-rest.rest.now (some_bytes c.loop-rest.rest.now c.is_empty.result c.is_empty.ensures c.loop-rest-test.true) none
+    ∙ ap (λ (kind : Kind). Err (record { place = c.args.line.now.place; kind = kind })) (sym c.stuck_at-kind.ensures)
 
 pub split_at-requires : goal.split_at-requires
 split_at-requires c = piece_in c.loop-rest.rest.now c.in-Some.length (sym c.piece_length.ensures ∙ c.in-Some.is)
