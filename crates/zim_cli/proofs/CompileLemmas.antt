@@ -3,8 +3,6 @@ use Rattle.std.proofs.Common.{[], ◌∷◌, ◌≡◌, ℕ, List, Option, None,
 use Rattle.std.specs.Prelude.{IfSome}
 use Rattle.zim_answer.specs.Gives.{Gives}
 use Rattle.zim_fault.specs.declared.faults.Fault.{Fault}
-use Rattle.zim_fault.specs.declared.faults.Place.{Place}
-use Rattle.zim_fault.specs.declared.kinds.Kind.TheVariants.{Syntax}
 use Rattle.zim_fault.specs.declared.tokens.Placed.{Placed}
 use Rattle.zim_gate.specs.Counts.{Rose}
 use Rattle.zim_gate.specs.Folder.{FolderState, Files}
@@ -22,14 +20,14 @@ use Rattle.zim_lex.specs.Opened.{Begins}
 use Rattle.zim_lex.specs.Statements.{statements_of}
 use Rattle.zim_lex.specs.Tokens.{AreTokens, IsFirstStuck}
 use Rattle.zim_cli.specs.declared.ending.Ending.TheVariants as ending
-use Rattle.zim_cli.specs.declared.plain_form.PlainModel.{PlainModel}
-use Rattle.zim_cli.specs.declared.stop.ParseStop.{ParseStop}
-use Rattle.zim_cli.specs.declared.stop.ParseStop.TheVariants as parsing
+use Rattle.zim_plain.specs.declared.plain_form.PlainModel.{PlainModel}
+use Rattle.zim_plain.specs.declared.stop.ParseStop.{ParseStop}
+use Rattle.zim_plain.specs.declared.stop.ParseStop.TheVariants as parsing
 use Rattle.zim_cli.specs.declared.stop.ReadStop.{ReadStop}
 use Rattle.zim_cli.specs.declared.stop.ReadStop.TheVariants as reading
 use Rattle.zim_cli.specs.Compile.{WhereTold, HasSystem, Makes, made, refused, unread, no_memory, Compiles}
 use Rattle.zim_cli.specs.Lexed.{LinesBreak, stuck, left_open, broken, LinesParseTo, LinesAnswer}
-use Rattle.zim_cli.specs.PlainSystem.{ParseAnswer}
+use Rattle.zim_plain.specs.Answers.{ParseAnswer}
 use Rattle.zim_cli.specs.Reading.{IsRefusedFor, not_loaded, not_plain}
 use Rattle.zim_cli.proofs.FaultPlaces.{breaks_in}
 use Rattle.zim_cli.proofs.FieldLemmas.{can_be_listed}
@@ -55,14 +53,21 @@ lines_parsed lines placed spans r read are cut is answer =
     at : ParseAnswer placed spans (Ok read) → LinesParseTo lines read
     at (model, spelled, plain, says) = record {
       model = model;
-      spell = record { placed = placed; tokens = are; spans = spans; cut = cut; spelled = spelled; plain = plain };
+      spell = record {
+        placed = placed;
+        tokens = are;
+        spans = spans;
+        cut = cut;
+        spelled = spelled;
+        accepted = record { plain = plain; system = says.system; system_is = says.system_is; faultless = says.faultless };
+      };
       says = says;
     }
 
-pub lines_broken : (lines : List Line) (placed : List Placed) (spans : List Span) (r : Result PlainModel ParseStop) (e : ParseStop) (place : Place) → AreTokens lines placed → statements_of placed ≡ Ok spans → r ≡ Err e → e ≡ parsing.Broken place →
-    ParseAnswer placed spans r → LinesBreak lines (record { place = place; kind = Syntax })
-lines_broken lines placed spans r e place are cut is stop answer =
-    broken placed spans place are cut (subst (λ (x : Result PlainModel ParseStop). ParseAnswer placed spans x) (is ∙ ap Err stop) answer)
+pub lines_broken : (lines : List Line) (placed : List Placed) (spans : List Span) (r : Result PlainModel ParseStop) (e : ParseStop) (fault : Fault) → AreTokens lines placed → statements_of placed ≡ Ok spans → r ≡ Err e → e ≡ parsing.Fault fault →
+    ParseAnswer placed spans r → LinesBreak lines fault
+lines_broken lines placed spans r e fault are cut is stop answer =
+    broken placed spans fault are cut (subst (λ (x : Result PlainModel ParseStop). ParseAnswer placed spans x) (is ∙ ap Err stop) answer)
 
 -- what is so of told files is so of them in another way
 pub where_map : (held : Option Files) (name : List ℕ) (P Q : Files → List ℕ → Type 0) → ((files : Files) (name : List ℕ) → P files name → Q files name) → WhereTold held name P → WhereTold held name Q

@@ -1,5 +1,5 @@
 -- The place of a fault of lines is that of one of the lines.
-use Rattle.std.proofs.Common.{◌≡◌, ℕ, ◌+◌, ◌<◌, Bool, true, false, cond, List, [], ◌∷◌, ◌++◌, length, get_or, Ok, Err, Option, Some, None, sym, ◌∙◌, ap, subst, arith}
+use Rattle.std.proofs.Common.{◌≡◌, ℕ, ◌+◌, ◌<◌, Bool, true, false, cond, List, [], ◌∷◌, ◌++◌, length, get_or, Ok, Err, Option, Some, None, sym, ◌∙◌, subst, arith}
 use Rattle.std.specs.Prelude.{All}
 use Rattle.std.specs.List.{AllByRecursion, slice_split, onto_first, flat_map}
 use Rattle.std.proofs.lemmas.List.Elements.{All-from_recursion, recursion_from_All}
@@ -14,19 +14,19 @@ use Rattle.zim_lex.specs.Pieces.{token_of}
 use Rattle.zim_lex.specs.Statements.{ends_statement, spans_from, statements_of}
 use Rattle.zim_lex.specs.Tokens.{placed_token, tokens_at, AreTokens, none, more, IsFirstStuck, here, later}
 use Rattle.zim_cli.specs.Lexed.{LinesBreak, stuck, left_open, broken}
-use Rattle.zim_cli.specs.Segments.{IsWithin, IsBroken}
+use Rattle.zim_plain.specs.Segments.{IsWithin}
+use Rattle.zim_plain.specs.Answers as segments
+use Rattle.zim_plain.specs.Answers.{IsFirstFault}
 use Rattle.zim_cli.proofs.SpanLemmas.{from-more, spans_within, within_at}
+use Rattle.zim_cli.proofs.SpelledLemmas.{all_append, all_spelled, one_spelled}
+use Rattle.zim_cli.proofs.StatementPlaces.{PlaceIn, TokensIn, statement_fault_in, system_fault_in}
 
--- the lines, or the tokens, are in the first files, so many of them
+-- the lines are in the first files, so many of them
 abbrev LinesIn : ℕ → List Line → Type 0
 LinesIn n lines = AllByRecursion (λ (line : Line). line.place.file < n) lines
 
-abbrev TokensIn : ℕ → List Placed → Type 0
-TokensIn n placed = AllByRecursion (λ (p : Placed). p.place.file < n) placed
-
 both_in : (n : ℕ) (xs ys : List Placed) → TokensIn n xs → TokensIn n ys → TokensIn n (xs ++ ys)
-both_in n [] ys h k = k
-both_in n (x ∷ xs) ys h k = (h.0, both_in n xs ys h.1 k)
+both_in n xs ys h k = all_append (λ (p : Placed). PlaceIn n p.place) xs ys h k
 
 piece_in : (n : ℕ) (place : Place) (o : Option Token) → place.file < n → TokensIn n (placed_token place o)
 piece_in n place None h = tt
@@ -83,22 +83,29 @@ open_in : (n : ℕ) (placed : List Placed) (fault : Fault) → statements_of pla
 unfolding statements_of
 open_in n placed fault e h = open_in_parts n 0 (slice_split ends_statement placed) fault e (parts_in n placed h)
 
--- a statement that breaks plain form
+-- the first fault of the statements
 
-broken_in : (n : ℕ) (placed : List Placed) (spans : List Span) (place : Place) → statements_of placed ≡ Ok spans → IsBroken placed spans place → TokensIn n placed → place.file < n
-broken_in n placed spans place cut a h =
-    let within : All (IsWithin (length placed)) spans = spans_within placed spans cut in
-    let at : IsWithin (length placed) a.span =
-    within_at (length placed) a.before a.span a.after (subst (AllByRecursion (IsWithin (length placed))) a.whole (recursion_from_All (IsWithin (length placed)) spans within)) in
-    let there : a.span.from < length placed = omega (arith, at.some, at.within) in
-    let first : (get_or placed a.span.from a.first).place.file < n =
-    All-from_recursion (λ (p : Placed). p.place.file < n) placed h a.span.from a.first there in
-    subst (λ (p : Place). p.file < n) (ap (λ (p : Placed). p.place) a.first_is ∙ sym a.place_is) first
+first_in : (n : ℕ) (placed : List Placed) (before : List Span) (span : Span) (after : List Span) (first : Placed) → All (IsWithin (length placed)) (before ++ span ∷ after) → get_or placed span.from first ≡ first → TokensIn n placed → PlaceIn n first.place
+first_in n placed before span after first within first_is h =
+    let at : IsWithin (length placed) span =
+    within_at (length placed) before span after (recursion_from_All (IsWithin (length placed)) (before ++ span ∷ after) within) in
+    let there : span.from < length placed = omega (arith, at.some, at.within) in
+    subst (λ (p : Placed). PlaceIn n p.place) first_is
+    (All-from_recursion (λ (p : Placed). PlaceIn n p.place) placed h span.from first there)
+
+first_fault_in : (n : ℕ) (placed : List Placed) (spans : List Span) (fault : Fault) → All (IsWithin (length placed)) spans → IsFirstFault placed spans fault → TokensIn n placed → PlaceIn n fault.place
+first_fault_in n placed spans _ within (segments.broken before span after model first whole spelled unspelled first_is) h =
+    first_in n placed before span after first (subst (All (IsWithin (length placed))) whole within) first_is h
+first_fault_in n placed spans _ within (segments.stated before s after fault spelled faultless has) h =
+    statement_fault_in n before s fault has
+    (one_spelled (λ (p : Placed). PlaceIn n p.place) before s after (all_spelled (λ (p : Placed). PlaceIn n p.place) placed spans (before ++ s ∷ after) h spelled))
+first_fault_in n placed spans _ within (segments.finished model system fault spelled plain is e) h =
+    system_fault_in n model system fault is e (all_spelled (λ (p : Placed). PlaceIn n p.place) placed spans model h spelled)
 
 -- the place of a first fault is in a file that the lines are in
 pub breaks_in : (n : ℕ) (lines : List Line) (fault : Fault) → LinesBreak lines fault → All (λ (line : Line). line.place.file < n) lines → fault.place.file < n
 breaks_in n lines _ (stuck fault is) all = stuck_in n lines fault is (recursion_from_All (λ (line : Line). line.place.file < n) lines all)
 breaks_in n lines _ (left_open placed fault are cut) all =
     open_in n placed fault cut (tokens_in n lines placed are (recursion_from_All (λ (line : Line). line.place.file < n) lines all))
-breaks_in n lines _ (broken placed spans place are cut breaks) all =
-    broken_in n placed spans place cut breaks (tokens_in n lines placed are (recursion_from_All (λ (line : Line). line.place.file < n) lines all))
+breaks_in n lines _ (broken placed spans fault are cut breaks) all =
+    first_fault_in n placed spans fault (spans_within placed spans cut) breaks (tokens_in n lines placed are (recursion_from_All (λ (line : Line). line.place.file < n) lines all))

@@ -1,8 +1,9 @@
 -- The names in a model are fields of a line.
-use Rattle.std.proofs.Common.{◌≡◌, ℕ, zero, suc, ◌<◌, Bool, true, false, List, [], ◌∷◌, ◌++◌, length, map, take, drop, Option, Some, None, refl, sym, ◌∙◌, ap, subst, arith, cond}
+use Rattle.std.proofs.Common.{◌≡◌, ℕ, ◌<◌, Bool, true, false, List, [], ◌∷◌, ◌++◌, length, map, Option, Some, None, refl, sym, ◌∙◌, ap, subst, arith, cond}
 use Rattle.std.specs.Prelude.{All, ⊤, ◌&&◌, ◌==◌, not, IfSome, option_map}
 use Rattle.std.specs.Option.{option_or}
 use Rattle.std.specs.List.{AllByRecursion, list_all, flat_map}
+use Rattle.std.specs.List.Sorted.{IsNonDecreasingBy}
 use Rattle.std.proofs.lemmas.Bool.Decides.{nat_tests}
 use Rattle.std.proofs.lemmas.List.{length-map}
 use Rattle.std.proofs.lemmas.List.Elements.{All-from_recursion}
@@ -20,14 +21,19 @@ use Rattle.zim_lex.specs.Numbers.{is_number, is_string}
 use Rattle.zim_lex.specs.Pieces.{is_word, is_name, between_quotes, token_of}
 use Rattle.zim_lex.specs.Spelled.{word_in, sign_in}
 use Rattle.zim_lex.specs.Tokens.{placed_token, tokens_at, AreTokens, none, more}
+use Rattle.zim_rows.specs.declared.rows.Row.{Row}
 use Rattle.zim_rows.specs.Finished.{program_of}
+use Rattle.zim_rows.specs.Program.{LinearProgram}
+use Rattle.zim_rows.specs.Scaled.{scaled_row}
 use Rattle.zim_table.specs.Correct.{IsStatement, CanBeListed}
 use Rattle.zim_table.specs.declared.names.Names.{Names}
-use Rattle.zim_cli.specs.declared.plain_form.PlainModel.{PlainModel}
-use Rattle.zim_cli.specs.PlainForm.{Statement, Variable, Objective, Constraint, Model, spelled_statement, variables, name_of}
-use Rattle.zim_cli.specs.PlainSystem.{Says}
-use Rattle.zim_cli.specs.Segments.{segment, Spell}
-use Rattle.zim_cli.proofs.ProgramLaws.{position_there, rows_there, rows_rise}
+use Rattle.zim_plain.specs.declared.plain_form.PlainModel.{PlainModel}
+use Rattle.zim_plain.specs.Statements.{Statement, Variable, Objective, Constraint, Model, spelled_statement, variables, name_of}
+use Rattle.zim_plain.specs.Segments.{Spell}
+use Rattle.zim_plain.specs.Answers.{Says}
+use Rattle.zim_cli.specs.Outputs.{names_of_statements}
+use Rattle.zim_cli.proofs.RowPositions.{position_there, rows_there, rows_rise}
+use Rattle.zim_cli.proofs.SpelledLemmas.{AllSpelled, all_spelled}
 
 -- bytes
 
@@ -101,46 +107,22 @@ tokens_named _ _ none = tt
 tokens_named _ _ (more line lines first others at rest) =
     named_append first others (subst AreNamed (sym at.tokens_are) (pieces_named line.place at.pieces)) (tokens_named lines others rest)
 
--- segments
+-- statements
 
-named_take : (n : ℕ) (xs : List Placed) → AreNamed xs → AreNamed (take n xs)
-named_take zero xs h = tt
-named_take (suc n) [] h = tt
-named_take (suc n) (x ∷ xs) h = (h.0, named_take n xs h.1)
+statement_named : (s : Statement) → AreNamed (spelled_statement s) → IsField (name_of s)
+statement_named (Variable head end) h = h.1.0
+statement_named (Objective maximize head colon sum end) h = h.1.0
+statement_named (Constraint head colon left sense at right end) h = h.1.0
 
-named_drop : (n : ℕ) (xs : List Placed) → AreNamed xs → AreNamed (drop n xs)
-named_drop zero xs h = h
-named_drop (suc n) [] h = tt
-named_drop (suc n) (x ∷ xs) h = named_drop n xs h.1
-
-named_tokens : (xs : List Placed) → AreNamed xs → AllByRecursion IsNamed (map (λ (p : Placed). p.token) xs)
-named_tokens [] h = tt
-named_tokens (x ∷ xs) h = (h.0, named_tokens xs h.1)
-
-segment_named : (placed : List Placed) (span : Span) → AreNamed placed → AllByRecursion IsNamed (segment placed span)
-segment_named placed span h = named_tokens _ (named_take _ _ (named_drop span.from placed h))
-
-statement_named : (s : Statement) → AllByRecursion IsNamed (spelled_statement s) → IsField (name_of s)
-statement_named (Variable name) h = h.1.0
-statement_named (Objective maximize name terms) h = h.1.0
-statement_named (Constraint name terms sense negative digits) h = h.1.0
-
-cons_parts : {X : Type 0} (a b : X) (xs ys : List X) → a ∷ xs ≡ b ∷ ys → (a ≡ b) × (xs ≡ ys)
-cons_parts a b xs ys e = (cc, cc)
-
-statements_named : (placed : List Placed) (spans : List Span) (model : Model) → AreNamed placed → Spell placed spans model → AllByRecursion (λ (s : Statement). IsField (name_of s)) model
-statements_named placed [] [] named e = tt
-statements_named placed [] (s ∷ model) named e = cc
-statements_named placed (span ∷ spans) [] named e = cc
-statements_named placed (span ∷ spans) (s ∷ model) named e =
-    let both = cons_parts (segment placed span) (spelled_statement s) (map (segment placed) spans) (map spelled_statement model) e in
-    (statement_named s (subst (AllByRecursion IsNamed) both.0 (segment_named placed span named)), statements_named placed spans model named both.1)
+statements_named : (model : Model) → AllSpelled (λ (p : Placed). IsNamed p.token) model → AllByRecursion (λ (s : Statement). IsField (name_of s)) model
+statements_named [] h = tt
+statements_named (s ∷ model) h = (statement_named s h.0, statements_named model h.1)
 
 variables_fields : (model : Model) → AllByRecursion (λ (s : Statement). IsField (name_of s)) model → AllByRecursion IsField (variables model)
 variables_fields [] h = tt
-variables_fields (Variable name ∷ model) h = (h.0, variables_fields model h.1)
-variables_fields (Objective maximize name terms ∷ model) h = variables_fields model h.1
-variables_fields (Constraint name terms sense negative digits ∷ model) h = variables_fields model h.1
+variables_fields (Variable head end ∷ model) h = (h.0, variables_fields model h.1)
+variables_fields (Objective maximize head colon sum end ∷ model) h = variables_fields model h.1
+variables_fields (Constraint head colon left sense at right end ∷ model) h = variables_fields model h.1
 
 names_fields : (model : Model) → AllByRecursion (λ (s : Statement). IsField (name_of s)) model → AllByRecursion IsField (map name_of model)
 names_fields [] h = tt
@@ -154,16 +136,21 @@ objective_statement names count None e fields low = tt
 objective_statement names count (Some position) e fields low = is_statement names position count e fields low
 
 -- what the lines of a model give can be listed
-pub can_be_listed : (lines : List Line) (placed : List Placed) (spans : List Span) (model : Model) (read : PlainModel) → AreTokens lines placed → Spell placed spans model → Says model read → CanBeListed (program_of read.system) read.variables read.names
+pub can_be_listed : (lines : List Line) (placed : List Placed) (spans : List Span) (model : Model) (read : PlainModel) → AreTokens lines placed → Spell placed spans model → Says model read → CanBeListed (program_of read.system) read.variables (names_of_statements read)
 can_be_listed lines placed spans model read tokens spell says =
-    let each : AllByRecursion (λ (s : Statement). IsField (name_of s)) model = statements_named placed spans model (tokens_named lines placed tokens) spell in
-    let count : length read.names.statements ≡ length model = ap length says.statements ∙ length-map model name_of in
-    let fields : All IsField read.names.statements = subst (All IsField) (sym says.statements) (All-from_recursion IsField (map name_of model) (names_fields model each)) in
+    let names : Names = names_of_statements read in
+    let each : AllByRecursion (λ (s : Statement). IsField (name_of s)) model =
+    statements_named model (all_spelled (λ (p : Placed). IsNamed p.token) placed spans model (tokens_named lines placed tokens) spell) in
+    let count : length read.statements ≡ length model = ap length says.statements ∙ length-map model name_of in
+    let fields : All IsField read.statements = subst (All IsField) (sym says.statements) (All-from_recursion IsField (map name_of model) (names_fields model each)) in
+    let rows : map scaled_row says.system.rows ≡ read.system.rows = sym (ap (λ (p : LinearProgram). p.rows) says.program_is) in
+    let there : All (λ (r : Row). r.from.statement < length model) read.system.rows =
+    subst (All (λ (r : Row). r.from.statement < length model)) rows (rows_there (variables model) model says.system.rows says.system_is.rows) in
     record {
       one_each = ap length says.variables_are ∙ sym says.columns;
       variable_names = subst (All IsField) (sym says.variables_are) (All-from_recursion IsField (variables model) (variables_fields model each));
-      statements = λ k d low. is_statement read.names _ (length model) count fields (rows_there (variables model) model read.system.rows says.rows_are k d low);
-      rising = rows_rise (variables model) 0 model read.system.rows says.rows_are;
-      objective = objective_statement read.names (length model) read.names.objective count fields
+      statements = λ k d low. is_statement names _ (length model) count fields (there k d low);
+      rising = subst (IsNonDecreasingBy (λ (r : Row). r.from.statement)) rows (rows_rise (variables model) 0 model says.system.rows says.system_is.rows);
+      objective = objective_statement names (length model) read.objective count fields
           (subst (λ (o : Option ℕ). IfSome o (λ (position : ℕ). position < length model)) (sym says.objective_is) (position_there 0 (length model) model (omega arith)));
     }

@@ -1,16 +1,9 @@
-pub mod BuildLaws
-pub mod Digits
-pub mod ManyLaws
-pub mod PlainReaderLaws
-pub mod Places
-pub mod ProgramLaws
-pub mod ReaderLoops
-pub mod Rising
-pub mod RowLaws
-pub mod SystemLaws
-pub mod TermsOnce
 pub mod SameTexts
-mod AtPlace
+mod SegmentFaults
+mod SpelledLemmas
+mod StatementPlaces
+mod RowPositions
+mod WithinLemmas
 mod BreakLemmas
 mod CompileLemmas
 mod EndedTable

@@ -8,7 +8,7 @@ use Rattle.zim_fault.specs.declared.faults.Fault.{Fault}
 use Rattle.zim_fault.specs.declared.tokens.Placed.{Placed}
 use Rattle.zim_lex.specs.declared.lines.Span.{Span}
 use Rattle.zim_lex.specs.Statements.{ends_statement, spans_from, statements_of}
-use Rattle.zim_cli.specs.Segments.{IsWithin}
+use Rattle.zim_plain.specs.Segments.{IsWithin}
 
 -- how many there are in parts, each with one more
 abbrev total : List (List Placed) → ℕ

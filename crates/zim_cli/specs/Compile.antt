@@ -7,13 +7,14 @@ use Rattle.zim_lex.specs.Expanded.{model_in}
 use Rattle.zim_lex.specs.Unread.{MayBeUnread}
 use Rattle.zim_rows.specs.Finished.{program_of}
 use Rattle.zim_table.specs.Correct.{CanBeListed}
-use Rattle.zim_cli.specs.declared.plain_form.PlainModel.{PlainModel}
+use Rattle.zim_plain.specs.declared.plain_form.PlainModel.{PlainModel}
 use Rattle.zim_cli.specs.declared.ending.Ending.{Ending}
 use Rattle.zim_cli.specs.declared.ending.Ending.TheVariants as ending
 use Rattle.zim_cli.specs.Ending.{IsReportable}
+use Rattle.zim_cli.specs.Outputs.{names_of_statements}
 use Rattle.zim_cli.specs.WriteFile.{KeepsFiles}
-use Rattle.zim_cli.specs.PlainForm.{Model}
-use Rattle.zim_cli.specs.PlainSystem.{Says}
+use Rattle.zim_plain.specs.Statements.{Model}
+use Rattle.zim_plain.specs.Answers.{Says}
 use Rattle.zim_cli.specs.Reading.{HasModel, IsRefusedFor}
 
 -- Where files are told, this is so of them and the model's name.
@@ -35,7 +36,7 @@ pub record HasSystem (system : PlainModel) (files : Files) (name : List ℕ) : T
 
 -- What was made of the model of this name, or with which ending the work stopped.
 pub data Makes (before now : FolderState) (model : List ℕ) : Result PlainModel Ending → Type 0 where
-  made : (system : PlainModel) → WhereTold before.held model (HasSystem system) → CanBeListed (program_of system.system) system.variables system.names → Makes before now model (Ok system)
+  made : (system : PlainModel) → WhereTold before.held model (HasSystem system) → CanBeListed (program_of system.system) system.variables (names_of_statements system) → Makes before now model (Ok system)
   -- the model's file is the first of those among which the fault's place counts
   refused : (fault : Fault) (others : List (List ℕ)) → WhereTold before.held model (λ files name. IsRefusedFor files name fault (model ∷ others)) →
       Makes before now model (Err (ending.Refused fault (model ∷ others)))

@@ -2,18 +2,14 @@
 use Rattle.std.specs.Prelude.{◌≡◌, ◌≢◌, ℕ, ◌≤◌, ◌↔◌, List, map, AllPairs, false, Some, IsSome, pos, neg_ℤ, if◌then◌else◌}
 use Rattle.std.specs.List.{AllByRecursion, enumerate_from}
 use Rattle.zim_rational.specs.Rational.{whole, times}
-use Rattle.zim_instance.specs.Instance.{Instance, Point, IsPoint, number_at, objective_at}
+use Rattle.zim_instance.specs.Instance.{Instance, Point, IsPoint, objective_at}
 use Rattle.zim_lp.specs.Reader.{lp}
 use Rattle.zim_mps.specs.Reader.{mps}
-use Rattle.zim_table.specs.Reader.{Pair, Table, table}
+use Rattle.zim_table.specs.Reader.{Pair, Table, table, cut}
 use Rattle.zim_table.specs.Correct.{numbered_pair}
 use Rattle.zim_cli.specs.Outputs.{Texts}
-use Rattle.zim_cli.specs.PlainForm.{Model, variables}
-use Rattle.zim_cli.specs.PlainMeaning.{Assignment, IsAssignment, Sat, Obj, maximises}
-
--- A point cut down by a table: each declared variable gets the number of the file column that is paired with it.
-abbrev pub cut : Table → Point → Assignment
-cut t point = map (λ (p : Pair). number_at point p.column) t.pairs
+use Rattle.zim_plain.specs.Statements.{Model, variables}
+use Rattle.zim_plain.specs.Meaning.{Assignment, IsAssignment, Sat, Obj, maximises}
 
 -- A point is the only one of an instance that is cut down to an assignment.
 pub record IsOnlyPoint (t : Table) (instance : Instance) (values : Assignment) (point : Point) : Type 0 where

@@ -13,7 +13,7 @@ use Rattle.zim_table.specs.Ended.{EndsInEnd}
 use Rattle.zim_cli.specs.declared.outputs.Output.TheVariants.{Table}
 use Rattle.zim_cli.specs.Compile.{WhereTold}
 use Rattle.zim_cli.specs.Ending.{status_of, line_of, TakesLine}
-use Rattle.zim_cli.specs.PlainForm.{Model}
+use Rattle.zim_plain.specs.Statements.{Model}
 use Rattle.zim_cli.specs.Reading.{HasModel, IsRefusedFor, MissesFile}
 use Rattle.zim_cli.specs.Outputs.{output_name, with_table}
 use Rattle.zim_cli.specs.Run.{Ended, OfTexts}

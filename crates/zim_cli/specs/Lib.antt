@@ -1,14 +1,4 @@
-pub mod Many
-pub mod PlainBuild
-pub mod PlainForm
-pub mod PlainMeaning
-pub mod PlainReader
-pub mod PlainProgram
-pub mod PlainRows
-pub mod PlainSystem
 pub mod PlainTexts
-pub mod Segments
-pub mod Stops
 pub mod Job
 pub mod Status
 pub mod Reading

@@ -8,8 +8,9 @@ use Rattle.zim_gate.specs.declared.stops.BeginStop.TheVariants as begin_stop
 use Rattle.zim_rows.specs.Finished.{program_of}
 use Rattle.zim_lp.specs.Text.{lp_text}
 use Rattle.zim_mps.specs.Text.{mps_text}
+use Rattle.zim_table.specs.declared.names.Names.{Names}
 use Rattle.zim_table.specs.Text.{table_text}
-use Rattle.zim_cli.specs.declared.plain_form.PlainModel.{PlainModel}
+use Rattle.zim_plain.specs.declared.plain_form.PlainModel.{PlainModel}
 use Rattle.zim_cli.specs.declared.outputs.Output.{Output}
 use Rattle.zim_cli.specs.declared.outputs.Output.TheVariants.{Lp, Mps, Table}
 use Rattle.zim_cli.specs.declared.outputs.OutputNames.{OutputNames}
@@ -44,12 +45,16 @@ pub record Texts : Type 0 where
   pub mps : List ℕ
   pub table : List ℕ
 
+-- The names of a model's statements, and which of them is the objective.
+abbrev pub names_of_statements : PlainModel → Names
+names_of_statements read = record { statements = read.statements; objective = read.objective }
+
 -- The texts that are written for a model.
 abbrev pub texts_of : PlainModel → Texts
 texts_of read = record {
   lp = lp_text (program_of read.system);
   mps = mps_text (program_of read.system);
-  table = table_text (program_of read.system) read.variables read.names;
+  table = table_text (program_of read.system) read.variables (names_of_statements read);
 }
 
 -- Files in which the table of a base is empty.

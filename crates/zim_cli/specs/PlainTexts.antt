@@ -1,9 +1,9 @@
 -- The texts of a model.
 use Rattle.std.specs.Prelude.{◌≡◌}
-use Rattle.zim_cli.specs.declared.plain_form.PlainModel.{PlainModel}
+use Rattle.zim_plain.specs.declared.plain_form.PlainModel.{PlainModel}
 use Rattle.zim_cli.specs.Outputs.{texts_of}
-use Rattle.zim_cli.specs.PlainForm.{Model}
-use Rattle.zim_cli.specs.PlainSystem.{Says}
+use Rattle.zim_plain.specs.Statements.{Model}
+use Rattle.zim_plain.specs.Answers.{Says}
 
 -- All systems that say a model have the same texts.
 abbrev pub HasOneOfEachText : Model → Type 0

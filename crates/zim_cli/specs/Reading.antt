@@ -6,9 +6,9 @@ use Rattle.zim_lex.specs.declared.lines.Loaded.{Loaded}
 use Rattle.zim_lex.specs.Expanded.{At, model_in}
 use Rattle.zim_lex.specs.Unread.{MeetsMissing}
 use Rattle.zim_cli.specs.Lexed.{LinesSpell, LinesBreak}
-use Rattle.zim_cli.specs.PlainForm.{Model}
+use Rattle.zim_plain.specs.Statements.{Model}
 
--- The lines of the named file, with the lines of the files that it includes in their places, spell a model of plain form.
+-- The lines of the named file, with the lines of the files that it includes in their places, spell a model that is accepted.
 pub record HasModel (files : Files) (name : List ℕ) (model : Model) : Type 0 where
   pub loaded : Loaded
   pub loads : model_in files name ≡ Ok loaded

@@ -8,12 +8,12 @@ use Rattle.zim_cli.specs.declared.ending.Ending.TheVariants as ending
 use Rattle.zim_cli.specs.declared.jobs.Job.{Job}
 use Rattle.zim_cli.specs.declared.jobs.Job.TheVariants.{Compile}
 use Rattle.zim_cli.specs.declared.outputs.Output.{Output}
-use Rattle.zim_cli.specs.declared.plain_form.PlainModel.{PlainModel}
-use Rattle.zim_cli.specs.PlainSystem.{Says}
+use Rattle.zim_plain.specs.declared.plain_form.PlainModel.{PlainModel}
+use Rattle.zim_plain.specs.Answers.{Says}
 use Rattle.zim_cli.specs.Compile.{WhereTold, IsUnread}
 use Rattle.zim_cli.specs.FilesOf.{AreFilesOf}
 use Rattle.zim_cli.specs.Outputs.{Texts, texts_of, output_name, both_lengths, with_table, Makes, IsEmptyFrontOf, IsStoppedAt}
-use Rattle.zim_cli.specs.PlainForm.{Model}
+use Rattle.zim_plain.specs.Statements.{Model}
 use Rattle.zim_cli.specs.WriteFile.{KeepsFiles}
 use Rattle.zim_cli.specs.Reading.{HasModel, IsRefusedFor}
 

@@ -41,7 +41,7 @@ fn perform_compile<F: Folder>(alloc: Global, folder: &mut F, model: &[u8], base:
         Ok(names) => names,
         Err(Memory) => return Ending::Memory,
     };
-    let written = write_files(folder, &names, &read);
+    let written = write_files(folder, &names, read);
     ending_of(names, written)
 }
 

@@ -2,12 +2,11 @@ ghost use Rattle.zim_cli.specs.Compile.{Compiles};
 ghost use Rattle.zim_cli.specs.Lexed.{LinesAnswer};
 
 use crate::ending::Ending;
-use crate::plain_form::{PlainModel, parse};
-use crate::stop::{ParseStop, ReadStop};
+use crate::stop::ReadStop;
 use std::alloc::Global;
-use zim_fault::{Fault, Kind};
 use zim_gate::Folder;
 use zim_lex::{LexFault, Line, LoadFault, Loaded, lex, load, statements};
+use zim_plain::{ParseStop, PlainModel, parse};
 
 /// The system of the model whose lines these are, or their first fault.
 fn system_of_lines(alloc: Global, lines: &[Line]) -> Result<PlainModel, ReadStop>
@@ -25,10 +24,7 @@ fn system_of_lines(alloc: Global, lines: &[Line]) -> Result<PlainModel, ReadStop
     };
     match parse(alloc, tokens.as_slice(), spans.as_slice()) {
         Ok(system) => Ok(system),
-        Err(ParseStop::Broken(place)) => {
-            let kind = Kind::Syntax;
-            Err(ReadStop::Refused(Fault { place, kind }))
-        }
+        Err(ParseStop::Fault(fault)) => Err(ReadStop::Refused(fault)),
         Err(ParseStop::Memory) => Err(ReadStop::Memory),
     }
 }
@@ -37,7 +33,8 @@ fn system_of_lines(alloc: Global, lines: &[Line]) -> Result<PlainModel, ReadStop
 ///
 /// The first fault is, in this order: files past 67,108,864 bytes together, an include line that is too deep or a file that isn't
 /// there, whichever loading meets first; a quote that isn't closed on its line or another byte that begins no piece; tokens that no
-/// semicolon ends; a statement that breaks plain form. Nothing is written.
+/// semicolon ends; a statement that breaks plain form, a number past 128 bits or a row or a column too many, in the order that
+/// `zim_plain::parse` tells. Nothing is written.
 pub fn compile<F: Folder>(alloc: Global, folder: &mut F, model: &[u8]) -> Result<PlainModel, Ending>
     ensures { Compiles (F.state folder.old) (F.state folder.new) model.now result }
 {

@@ -1,6 +1,6 @@
 ghost use Rattle.std.specs.Prelude.{ℕ, List};
 ghost use Rattle.zim_gate.specs.Folder.{Files};
-ghost use Rattle.zim_cli.specs.PlainForm.{Model};
+ghost use Rattle.zim_plain.specs.Statements.{Model};
 ghost use Rattle.zim_cli.specs.PlainTexts.{HasOneOfEachText};
 ghost use Rattle.zim_cli.specs.Reading.{HasOneModel, HasOneFault, HasNoFaultAsModel, MissesFile, HasOnlyAMissingFile};
 

@@ -2,21 +2,16 @@
 //!
 //! [`run`] is the call that the program makes, and its contract is the theorem about the program:
 //! how a run ends, what it leaves in the folder, and what the written files say of the model
-//! (`specs/Headline.antt`, which leads to the rest). A model is text in plain form, whose grammar is
-//! `specs/PlainForm.antt` and whose meaning is `specs/PlainMeaning.antt`; its parser is private.
+//! (`specs/Headline.antt`, which leads to the rest). A model is text in plain form, whose grammar and
+//! meaning are those of `zim_plain`.
 #![tactic(auto)]
 
-mod builder;
 mod command;
 mod compiling;
 mod ending;
 mod jobs;
 mod laws;
 mod outputs;
-mod plain_form;
-mod reader;
-mod rows;
-mod statement;
 mod status;
 mod stop;
 mod words;

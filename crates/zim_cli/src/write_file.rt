@@ -6,9 +6,10 @@ ghost use Rattle.zim_mps.specs.Text.{mps_text};
 ghost use Rattle.zim_table.specs.Text.{table_text};
 ghost use Rattle.zim_table.specs.Correct.{CanBeListed};
 
-use crate::plain_form::PlainModel;
+use zim_fault::Bytes;
 use zim_gate::{BeginStop, Folder};
 use zim_rows::Finished;
+use zim_table::Names;
 
 /// Begins the named file and ends it, so that it is empty.
 ///
@@ -71,20 +72,23 @@ pub fn write_mps_file<F: Folder>(
     }
 }
 
-/// Writes the table of a model to the named file. What is said of `write_lp_file` is so of it too.
+/// Writes the table of a system to the named file, with the names of its variables and of the statements. What is said of
+/// `write_lp_file` is so of it too.
 pub fn write_table_file<F: Folder>(
     folder: &mut F,
     name: &[u8],
-    read: &PlainModel,
+    system: &Finished,
+    variables: &[Bytes],
+    names: &Names,
 ) -> Result<(), BeginStop>
-    requires { CanBeListed (program_of read.now.system) read.now.variables read.now.names }
-    ensures { WritesFile (F.state folder.old) (F.state folder.new) name.now (table_text (program_of read.now.system) read.now.variables read.now.names) result }
+    requires { CanBeListed (program_of system.now) variables.now names.now }
+    ensures { WritesFile (F.state folder.old) (F.state folder.new) name.now (table_text (program_of system.now) variables.now names.now) result }
 {
     match folder.begin(name) {
         Ok(()) => {}
         Err(stop) => return Err(stop),
     }
-    if zim_table::write(&read.system, read.variables.as_slice(), &read.names, folder).is_err() {
+    if zim_table::write(system, variables, names, folder).is_err() {
         return Err(BeginStop::Failed);
     }
     match folder.end() {

@@ -63,6 +63,7 @@ cut_up_to (suc most) (byte ∷ bytes) = do
   others ← cut_up_to most (drop n (byte ∷ bytes))
   Ok (take n (byte ∷ bytes) ∷ others)
 
--- the pieces of a line from left to right, each the longest one where it begins
+-- the pieces of a line from left to right, each the longest one where it begins; by the law `cutting_is_exact` they are the
+-- only list of pieces of which none could be longer, and the line has none exactly where a byte begins no piece
 unfoldable pub cut : List ℕ → Answer (List (List ℕ)) Kind
 cut line = cut_up_to (length line) line

@@ -1,6 +1,6 @@
 use zim_fault::{Bytes, Files, Place, Sequence};
 
-/// A line of a model, without the byte 10 that ends it.
+/// A line of a model, without the byte 10 that ends it. A byte 13 before that one stays: it is a blank.
 #[derive(Debug, Drop)]
 pub struct Line {
     /// The file among those that were opened, and the line in it.

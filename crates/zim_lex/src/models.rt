@@ -30,7 +30,7 @@ fn load_fault(stop: Stop, files: Files) -> LoadFault
 /// The files together may have 67,108,864 bytes. `LongFile` comes at the line of the first byte past
 /// them, when the file is opened, and a byte 10 belongs to the line that it ends. `IncludeDeep` comes
 /// at an include line of a file that is the sixteenth of those that include one another. `Read` comes
-/// where a file isn't there or the folder failed, which its count of read faults tells.
+/// where a file isn't there, and where the folder failed and its count of read faults rose.
 pub fn load<F: Folder>(alloc: Global, folder: &mut F, name: &[u8]) -> Result<Loaded, LoadFault>
     ensures { Loads (F.state folder.old) (F.state folder.new) name.now result }
 {

@@ -1,82 +1,139 @@
 -- Small systems with their texts, and small texts with what they say.
-use Rattle.std.proofs.Common.{◌≡◌, true, false, [], ◌∷◌, map, Option, Some, None, refl, pos, negsuc, lit<, decimal}
-use Rattle.std.proofs.lemmas.Fmt.{decimal_digit}
+use Rattle.std.proofs.Common.{◌≡◌, ℕ, true, false, List, [], ◌∷◌, map, Option, Some, None, refl, pos, negsuc}
+use Rattle.std.specs.Fmt.{digits}
 use Rattle.std.specs.Prelude.{codes, option_map, is_none}
-use Rattle.zim_rational.specs.Rational.{ratio, negate, zero}
+use Rattle.zim_rational.specs.Gcd.{gcd, euclid}
+use Rattle.zim_rational.specs.Rational.{Rational, ratio, negate, zero, one, whole, same}
+use Rattle.zim_decimal.specs.Short.{is_short, short_text, decimal_text, point_and, decimals}
 use Rattle.zim_instance.specs.Instance.{Instance}
+use Rattle.zim_linear.specs.Forms.{Term}
+use Rattle.zim_rows.specs.declared.rows.Column.{Column}
+use Rattle.zim_rows.specs.declared.rows.Row.{Row}
 use Rattle.zim_rows.specs.declared.rows.RowFrom.{RowFrom}
-use Rattle.zim_rows.specs.Program.{LinearProgram, no_target, empty_program}
+use Rattle.zim_rows.specs.declared.rows.RowKind.{RowKind}
+use Rattle.zim_rows.specs.declared.rows.RowKind.TheVariants.{One, Range}
 use Rattle.zim_rows.specs.declared.rows.Sense.TheVariants.{AtLeast, AtMost, Equal}
+use Rattle.zim_rows.specs.Program.{LinearProgram, no_target}
 use Rattle.zim_lp.specs.Numerals.{number_of_word}
 use Rattle.zim_lp.specs.FileText.{WrittenFile, file_text}
 use Rattle.zim_lp.specs.Text.{lp_text}
 use Rattle.zim_lp.specs.Reader.{lp}
 
-zero_digit : decimal 0 ≡ 48 ∷ []
-zero_digit = decimal_digit 0 (lit< tt)
-
-one_digit : decimal 1 ≡ 49 ∷ []
-one_digit = decimal_digit 1 (lit< tt)
-
-two_digit : decimal 2 ≡ 50 ∷ []
-two_digit = decimal_digit 2 (lit< tt)
-
-three_digit : decimal 3 ≡ 51 ∷ []
-three_digit = decimal_digit 3 (lit< tt)
-
-four_digit : decimal 4 ≡ 52 ∷ []
-four_digit = decimal_digit 4 (lit< tt)
-
-five_digit : decimal 5 ≡ 53 ∷ []
-five_digit = decimal_digit 5 (lit< tt)
-
 -- where a row of these examples comes from
 from_somewhere : RowFrom
 from_somewhere = record { statement = 0; place = record { file = 0; line = 1 } }
 
--- minimise 2 x + 3 y where x + y is at least 1
-two_columns : LinearProgram
-two_columns = record {
-  columns = 2;
-  rows = record { from = from_somewhere; terms = (1, pos 1) ∷ (2, pos 1) ∷ []; sense = AtLeast; right = pos 1 } ∷ [];
-  target = record { maximize = false; place = Some (record { file = 0; line = 1 }); terms = (1, pos 2) ∷ (2, pos 3) ∷ [] };
-}
+-- a column that is real and between two sides
+abbrev real_column : Option Rational → Option Rational → Column
+real_column low high = record { integer = false; sides = record { low = low; high = high } }
 
-two_columns-text : lp_text two_columns ≡ codes "\\ zimplc\nMinimize\n obj: 2 x1 + 3 x2\nSubject To\n r1: 1 x1 + 1 x2 >= 1\nBounds\n x1 >= 0\n x2 >= 0\nEnd\n"
-unfolding two_columns
-two_columns-text = rw (zero_digit, one_digit, two_digit, three_digit)
+-- a real column from 0 up
+abbrev from_zero : Column
+from_zero = real_column (Some zero) None
 
--- no column, no row, no objective
-no_columns-text : lp_text empty_program ≡ codes "\\ zimplc\nMinimize\n obj: 0 one\nSubject To\nBounds\n 1 <= one <= 1\nEnd\n"
-no_columns-text = rw (zero_digit, one_digit)
+-- a row by its factor, its terms and its kind
+abbrev row : ℕ → List Term → RowKind → Row
+row factor terms kind = record { from = from_somewhere; factor = pos factor; terms = terms; kind = kind }
 
--- a row without terms that nothing meets
-no_terms : LinearProgram
-no_terms = record {
-  columns = 1;
-  rows = record { from = from_somewhere; terms = []; sense = AtMost; right = negsuc 0 } ∷ [];
+-- x/3 + y/2 <= 1/7 by the factor 21
+abbrev fractions : LinearProgram
+fractions = record {
+  columns = from_zero ∷ from_zero ∷ [];
+  rows = row 21 ((1, whole (pos 7)) ∷ (2, ratio (pos 21) 2) ∷ []) (One AtMost (whole (pos 3))) ∷ [];
   target = no_target;
 }
 
-no_terms-text : lp_text no_terms ≡ codes "\\ zimplc\nMinimize\n obj: 0 x1\nSubject To\n r1: 0 x1 <= -1\nBounds\n x1 >= 0\nEnd\n"
-unfolding no_terms
-no_terms-text = rw (zero_digit, one_digit)
+fractions-text : lp_text fractions ≡ codes "\\ zimplc\nMinimize\n obj: 0 x1\nSubject To\n r1: 7 x1 + 10.5 x2 <= 3\nBounds\n x1 >= 0\n x2 >= 0\nEnd\n"
+unfolding is_short same short_text decimal_text point_and decimals digits negate whole zero one ratio gcd euclid
+fractions-text = refl
 
--- five terms that are maximised, of which the fifth stands on a line of its own
-five_terms : LinearProgram
-five_terms = record {
-  columns = 5;
+-- the greatest 2/3 x + 5 by the factor 3
+abbrev constant : LinearProgram
+constant = record {
+  columns = from_zero ∷ [];
   rows = [];
   target = record {
     maximize = true;
     place = Some (record { file = 0; line = 1 });
-    terms = (1, negsuc 0) ∷ (2, negsuc 1) ∷ (3, pos 3) ∷ (4, negsuc 3) ∷ (5, pos 5) ∷ [];
+    factor = pos 3;
+    terms = (1, whole (pos 2)) ∷ [];
+    constant = whole (pos 15);
   };
 }
 
-five_terms-text : lp_text five_terms ≡ codes "\\ zimplc\nMaximize\n obj: -1 x1 - 2 x2 + 3 x3 - 4 x4\n  + 5 x5\nSubject To\nBounds\n x1 >= 0\n x2 >= 0\n x3 >= 0\n x4 >= 0\n x5 >= 0\nEnd\n"
-unfolding five_terms
-five_terms-text = rw (zero_digit, one_digit, two_digit, three_digit, four_digit, five_digit)
+constant-text : lp_text constant ≡ codes "\\ zimplc\nMaximize\n obj: 2 x1 + 15 one\nSubject To\nBounds\n x1 >= 0\n 1 <= one <= 1\nEnd\n"
+unfolding is_short same short_text decimal_text point_and decimals digits negate whole zero one ratio gcd euclid
+constant-text = refl
+
+-- a lower side of 1/3, which stands as a row
+abbrev third : LinearProgram
+third = record {
+  columns = real_column (Some (ratio (pos 1) 3)) None ∷ [];
+  rows = row 3 ((1, whole (pos 3)) ∷ []) (One AtLeast one) ∷ [];
+  target = no_target;
+}
+
+third-text : lp_text third ≡ codes "\\ zimplc\nMinimize\n obj: 0 x1\nSubject To\n r1: 3 x1 >= 1\nBounds\n x1 free\nEnd\n"
+unfolding is_short same short_text decimal_text point_and decimals digits negate whole zero one ratio gcd euclid
+third-text = refl
+
+-- an integer column from 1 to 2, and a real one with an upper side alone
+abbrev integer : LinearProgram
+integer = record {
+  columns =
+      record { integer = true; sides = record { low = Some one; high = Some (whole (pos 2)) } }
+      ∷ real_column None (Some (negate (ratio (pos 5) 4)))
+      ∷ [];
+  rows = [];
+  target = no_target;
+}
+
+integer-text : lp_text integer ≡ codes "\\ zimplc\nMinimize\n obj: 0 x1\nSubject To\nBounds\n 1 <= x1 <= 2\n -inf <= x2 <= -1.25\nGenerals\n x1\nEnd\n"
+unfolding is_short same short_text decimal_text point_and decimals digits negate whole zero one ratio gcd euclid
+integer-text = refl
+
+-- a row without terms that nothing meets
+abbrev no_terms : LinearProgram
+no_terms = record { columns = from_zero ∷ []; rows = row 1 [] (One AtMost (whole (negsuc 0))) ∷ []; target = no_target }
+
+no_terms-text : lp_text no_terms ≡ codes "\\ zimplc\nMinimize\n obj: 0 x1\nSubject To\n r1: 0 x1 <= -1\nBounds\n x1 >= 0\nEnd\n"
+unfolding is_short same short_text decimal_text point_and decimals digits negate whole zero one ratio gcd euclid
+no_terms-text = refl
+
+-- a range from 2 to 8
+abbrev range : LinearProgram
+range = record {
+  columns = from_zero ∷ from_zero ∷ [];
+  rows = row 1 ((1, one) ∷ (2, one) ∷ []) (Range (whole (pos 2)) (whole (pos 8))) ∷ [];
+  target = no_target;
+}
+
+range-text : lp_text range ≡ codes "\\ zimplc\nMinimize\n obj: 0 x1\nSubject To\n r1: 1 x1 + 1 x2 >= 2\n r1u: 1 x1 + 1 x2 <= 8\nBounds\n x1 >= 0\n x2 >= 0\nEnd\n"
+unfolding is_short same short_text decimal_text point_and decimals digits negate whole zero one ratio gcd euclid
+range-text = refl
+
+-- no column, no row, no objective
+no_columns-text : lp_text (record { columns = []; rows = []; target = no_target }) ≡ codes "\\ zimplc\nMinimize\n obj: 0 one\nSubject To\nBounds\n 1 <= one <= 1\nEnd\n"
+unfolding is_short same short_text decimal_text point_and decimals digits negate whole zero one ratio gcd euclid
+no_columns-text = refl
+
+-- four terms and a constant that are maximised, of which the fifth stands on a line of its own
+abbrev five_terms : LinearProgram
+five_terms = record {
+  columns = from_zero ∷ from_zero ∷ from_zero ∷ from_zero ∷ [];
+  rows = [];
+  target = record {
+    maximize = true;
+    place = Some (record { file = 0; line = 1 });
+    factor = pos 1;
+    terms = (1, whole (negsuc 0)) ∷ (2, whole (negsuc 1)) ∷ (3, whole (pos 3)) ∷ (4, whole (negsuc 3)) ∷ [];
+    constant = ratio (pos 1) 2;
+  };
+}
+
+five_terms-text : lp_text five_terms ≡ codes "\\ zimplc\nMaximize\n obj: -1 x1 - 2 x2 + 3 x3 - 4 x4\n  + 0.5 one\nSubject To\nBounds\n x1 >= 0\n x2 >= 0\n x3 >= 0\n x4 >= 0\n 1 <= one <= 1\nEnd\n"
+unfolding is_short same short_text decimal_text point_and decimals digits negate whole zero one ratio gcd euclid
+five_terms-text = refl
 
 -- a file that maximises, with decimal numbers, each form of a bound and an integer column
 each_part : WrittenFile

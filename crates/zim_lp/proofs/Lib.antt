@@ -3,9 +3,10 @@ pub mod Numbers
 pub mod Readable
 pub mod Sentences
 pub mod Parsing
-pub mod Examples
 pub mod File
 pub mod Meaning
+pub mod ProgramParts
 pub mod ProgramFile
 pub mod Represent
 pub mod Pieces
+mod Examples

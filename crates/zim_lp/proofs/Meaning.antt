@@ -19,7 +19,7 @@ use Rattle.zim_lp.proofs.File.{program_said, file_read}
 
 -- words among names
 
-among_append : (a b : List Word) (w : Word) → is_among (a ++ b) w ≡ (is_among a w || is_among b w)
+pub among_append : (a b : List Word) (w : Word) → is_among (a ++ b) w ≡ (is_among a w || is_among b w)
 among_append [] b w = refl
 among_append (n ∷ a) b w = by_first (bytes_eq w n) a b w (among_append a b w)
   where

@@ -1,101 +1,217 @@
 -- The texts of the writer's loops, one piece further, and texts that are put in another way than they are defined.
-use Rattle.std.proofs.Common.{◌≡◌, ℕ, zero, suc, ◌+◌, ◌-◌, ◌<◌, ◌≤◌, Bool, true, false, cond, List, [], ◌∷◌, ◌++◌, length, take, drop, get_or, map, pos, refl, sym, ◌∙◌, ap, subst, append_assoc, zero-add, add-one, arith, lit<, decimal}
-use Rattle.std.specs.Prelude.{codes, flat_map, ◌==◌}
-use Rattle.std.specs.List.{range_with_len}
-use Rattle.std.proofs.lemmas.Fmt.{decimal_digit}
+use Rattle.std.proofs.Common.{◌≡◌, ℕ, zero, suc, ◌+◌, ◌-◌, ◌<◌, ◌≤◌, Bool, true, false, cond, ◌||◌, List, [], ◌∷◌, ◌++◌, length, take, drop, get_or, map, refl, sym, ◌∙◌, ap, ap₂, subst, append_assoc, zero-add, add-one, arith}
+use Rattle.std.specs.Prelude.{codes, flat_map, All}
+use Rattle.std.specs.Fmt.{digits}
+use Rattle.std.specs.List.{enumerate_from, list_any}
 use Rattle.std.proofs.lemmas.List.{append-nil, take_all}
-use Rattle.zim_rows.specs.Program.{LinearProgram}
+use Rattle.std.proofs.lemmas.List.Elements.{All-more, filter-append}
+use Rattle.zim_rational.specs.Rational as rational
+use Rattle.zim_rational.specs.Rational.{Rational, ratio, whole, negate}
+use Rattle.zim_decimal.specs.Short.{short_text, decimal_text, point_and, decimals}
+use Rattle.zim_linear.specs.Forms.{Term}
+use Rattle.zim_rows.specs.declared.rows.Column.{Column}
 use Rattle.zim_rows.specs.declared.rows.Row.{Row}
-use Rattle.zim_rows.specs.Terms.{Term}
-use Rattle.zim_rows.specs.Named.{column_name}
-use Rattle.zim_lp.specs.FileText.{first_term_text, further_term_text, numbered_text, terms_text, row_text, bound_text, generals_text, integers, aim_text}
-use Rattle.zim_lp.specs.Text.{whole_number, written_term, written_terms, written_row, written_rows, written_column, written_one, written_columns, lp_text}
+use Rattle.zim_rows.specs.declared.rows.RowKind.TheVariants.{Range}
+use Rattle.zim_rows.specs.declared.rows.Sense.TheVariants.{AtLeast, AtMost}
+use Rattle.zim_rows.specs.Program.{LinearProgram}
+use Rattle.zim_rows.specs.Named.{offset_name, has_offset}
+use Rattle.zim_lp.specs.FileText.{WrittenTerm, WrittenColumn, number_text, first_term_text, further_term_text, numbered_text, terms_text, row_text, bound_text, general_text, generals_text, integers, aim_text}
+use Rattle.zim_lp.specs.Text.{short_number, first_name, written_term, or_zero, written_terms, written_objective, row_label, high_label, compared, rows_of_kind, written_row, written_column, written_offset, written_columns, lp_text}
 
--- the further terms, with one term more
-pub further_terms-next : (first : ℕ) (ts : List Term) (i : ℕ) (d : Term) → i < length ts → numbered_text further_term_text first (map written_term (take (i + 1) ts)) ≡ numbered_text further_term_text first (map written_term (take i ts)) ++ further_term_text (i + first) (written_term (get_or ts i d))
-further_terms-next first [] i d h = absurd (omega arith)
-further_terms-next first (t ∷ ts) zero d h =
-    append-nil (further_term_text first (written_term t)) ∙ ap (λ n. further_term_text n (written_term t)) (sym (zero-add first))
-further_terms-next first (t ∷ ts) (suc i) d h =
+-- numbered members of a list
+
+-- the texts of a list's members with their numbers, with one member more
+numbered-next : {X : Type 0} (text : ℕ × X → List ℕ) (first : ℕ) (xs : List X) (i : ℕ) (d : X) → i < length xs → flat_map text (enumerate_from first (take (i + 1) xs)) ≡ flat_map text (enumerate_from first (take i xs)) ++ text (i + first, get_or xs i d)
+numbered-next text first [] i d h = absurd (omega arith)
+numbered-next text first (x ∷ xs) zero d h = append-nil (text (first, x)) ∙ ap (λ n. text (n, x)) (sym (zero-add first))
+numbered-next text first (x ∷ xs) (suc i) d h =
     let shifted : i + (first + 1) ≡ suc i + first = omega arith in
-    ap (λ n. numbered_text further_term_text first (map written_term (take n (t ∷ ts)))) (add-one (suc i))
-    ∙ ap (λ rest. further_term_text first (written_term t) ++ rest)
-    (ap (λ n. numbered_text further_term_text (first + 1) (map written_term (take n ts))) (sym (add-one i))
-    ∙ further_terms-next (first + 1) ts i d (omega arith)
-    ∙ ap (λ n. numbered_text further_term_text (first + 1) (map written_term (take i ts)) ++ further_term_text n (written_term (get_or ts i d))) shifted)
-    ∙ sym (append_assoc (further_term_text first (written_term t)) (numbered_text further_term_text (first + 1) (map written_term (take i ts))) (further_term_text (suc i + first) (written_term (get_or ts i d))))
+    ap (λ n. flat_map text (enumerate_from first (take n (x ∷ xs)))) (add-one (suc i))
+    ∙ ap (λ rest. text (first, x) ++ rest)
+    (ap (λ n. flat_map text (enumerate_from (first + 1) (take n xs))) (sym (add-one i))
+    ∙ numbered-next text (first + 1) xs i d (omega arith)
+    ∙ ap (λ n. flat_map text (enumerate_from (first + 1) (take i xs)) ++ text (n, get_or xs i d)) shifted)
+    ∙ sym (append_assoc (text (first, x)) (flat_map text (enumerate_from (first + 1) (take i xs))) (text (suc i + first, get_or xs i d)))
 
--- the rows, with one row more
-pub rows-next : (columns first : ℕ) (rows : List Row) (i : ℕ) (d : Row) → i < length rows → flat_map row_text (written_rows columns first (take (i + 1) rows)) ≡ flat_map row_text (written_rows columns first (take i rows)) ++ row_text (written_row columns (i + first) (get_or rows i d))
-rows-next columns first [] i d h = absurd (omega arith)
-rows-next columns first (row ∷ rows) zero d h =
-    append-nil (row_text (written_row columns first row)) ∙ ap (λ n. row_text (written_row columns n row)) (sym (zero-add first))
-rows-next columns first (row ∷ rows) (suc i) d h =
-    let shifted : i + (first + 1) ≡ suc i + first = omega arith in
-    ap (λ n. flat_map row_text (written_rows columns first (take n (row ∷ rows)))) (add-one (suc i))
-    ∙ ap (λ rest. row_text (written_row columns first row) ++ rest)
-    (ap (λ n. flat_map row_text (written_rows columns (first + 1) (take n rows))) (sym (add-one i))
-    ∙ rows-next columns (first + 1) rows i d (omega arith)
-    ∙ ap (λ n. flat_map row_text (written_rows columns (first + 1) (take i rows)) ++ row_text (written_row columns n (get_or rows i d))) shifted)
-    ∙ sym (append_assoc (row_text (written_row columns first row)) (flat_map row_text (written_rows columns (first + 1) (take i rows))) (row_text (written_row columns (suc i + first) (get_or rows i d))))
+-- a member that the loop reads is put behind those before it
+pub numbered_step : {X : Type 0} (text : ℕ × X → List ℕ) (first : ℕ) (xs : List X) (i : ℕ) (x : X) → i < length xs → x ≡ get_or xs i x → flat_map text (enumerate_from first (take i xs)) ++ text (i + first, x) ≡ flat_map text (enumerate_from first (take (i + 1) xs))
+numbered_step text first xs i x h is =
+    ap (λ y. flat_map text (enumerate_from first (take i xs)) ++ text (i + first, y)) is ∙ sym (numbered-next text first xs i x h)
 
-abbrev range_text : ℕ → ℕ → List ℕ
-range_text first count = flat_map bound_text (map written_column (range_with_len first count))
+-- what holds of it and of those before it
+pub all_step : {X : Type 0} (P : X → Type 0) (xs : List X) (i : ℕ) (x : X) → i < length xs → x ≡ get_or xs i x → All P (take i xs) → P x → All P (take (i + 1) xs)
+all_step P xs i x h is all p = All-more P xs i x h all (subst P is p)
 
--- the bounds, with the bound of one column more
-pub bounds-next : (first i : ℕ) → flat_map bound_text (map written_column (range_with_len first (i + 1))) ≡ flat_map bound_text (map written_column (range_with_len first i)) ++ bound_text (written_column (i + first))
-bounds-next first zero = append-nil (bound_text (written_column first)) ∙ ap (λ n. bound_text (written_column n)) (sym (zero-add first))
-bounds-next first (suc i) =
-    let shifted : i + (first + 1) ≡ suc i + first = omega arith in
-    ap (λ n. range_text first n) (add-one (suc i))
-    ∙ ap (λ rest. bound_text (written_column first) ++ rest)
-    (ap (λ n. range_text (first + 1) n) (sym (add-one i))
-    ∙ bounds-next (first + 1) i
-    ∙ ap (λ n. range_text (first + 1) i ++ bound_text (written_column n)) shifted)
-    ∙ sym (append_assoc (bound_text (written_column first)) (range_text (first + 1) i) (bound_text (written_column (suc i + first))))
+flat_map_mapped : {X Y : Type 0} (f : Y → List ℕ) (g : X → Y) (xs : List X) → flat_map (λ x. f (g x)) xs ≡ flat_map f (map g xs)
+flat_map_mapped f g [] = refl
+flat_map_mapped f g (x ∷ xs) = ap (λ rest. f (g x) ++ rest) (flat_map_mapped f g xs)
 
-zero_digit : decimal 0 ≡ 48 ∷ []
-zero_digit = decimal_digit 0 (lit< tt)
+flat_map_append : {X : Type 0} (f : X → List ℕ) (xs ys : List X) → flat_map f (xs ++ ys) ≡ flat_map f xs ++ flat_map f ys
+flat_map_append f [] ys = refl
+flat_map_append f (x ∷ xs) ys =
+    ap (λ rest. f x ++ rest) (flat_map_append f xs ys) ∙ sym (append_assoc (f x) (flat_map f xs) (flat_map f ys))
 
-one_digit : decimal 1 ≡ 49 ∷ []
-one_digit = decimal_digit 1 (lit< tt)
+flat_map_nested : {X Y : Type 0} (f : Y → List ℕ) (g : X → List Y) (xs : List X) → flat_map (λ x. flat_map f (g x)) xs ≡ flat_map f (flat_map g xs)
+flat_map_nested f g [] = refl
+flat_map_nested f g (x ∷ xs) =
+    ap (λ rest. flat_map f (g x) ++ rest) (flat_map_nested f g xs) ∙ sym (flat_map_append f (g x) (flat_map g xs))
+
+-- terms
+
+-- a further term with the number of those before it
+abbrev pub numbered_term : ℕ × Term → List ℕ
+numbered_term p = further_term_text p.0 (written_term p.1)
+
+further_numbered : (first : ℕ) (ts : List Term) → flat_map numbered_term (enumerate_from first ts) ≡ numbered_text further_term_text first (map written_term ts)
+further_numbered first [] = refl
+further_numbered first (t ∷ ts) = ap (λ rest. further_term_text first (written_term t) ++ rest) (further_numbered (first + 1) ts)
+
+further_append : (first : ℕ) (ts : List Term) (last : WrittenTerm) → numbered_text further_term_text first (map written_term ts) ++ further_term_text (length ts + first) last ≡ numbered_text further_term_text first (map written_term ts ++ last ∷ [])
+further_append first [] last = ap (λ n. further_term_text n last) (zero-add first) ∙ sym (append-nil (further_term_text first last))
+further_append first (t ∷ ts) last =
+    let shifted : suc (length ts) + first ≡ length ts + (first + 1) = omega arith in
+    append_assoc (further_term_text first (written_term t)) (numbered_text further_term_text (first + 1) (map written_term ts)) (further_term_text (suc (length ts) + first) last)
+    ∙ ap
+    (λ rest. further_term_text first (written_term t) ++ rest)
+    (ap (λ n. numbered_text further_term_text (first + 1) (map written_term ts) ++ further_term_text n last) shifted ∙ further_append (first + 1) ts last)
+
+-- the terms of a list as its first term and the further ones
+pub terms_in_two : (columns : ℕ) (ts : List Term) (first : Term) → 1 ≤ length ts → first ≡ get_or ts 0 first → first_term_text (written_term first) ++ flat_map numbered_term (enumerate_from 1 (take (length ts - 1) (drop 1 ts))) ≡ terms_text (written_terms columns ts)
+terms_in_two columns [] first h is = absurd (omega arith)
+terms_in_two columns (t ∷ ts) first h is =
+    let all : take (length (t ∷ ts) - 1) ts ≡ ts = take_all (length (t ∷ ts) - 1) ts (omega arith) in
+    ap₂
+    (λ (u : Term) (rest : List ℕ). first_term_text (written_term u) ++ rest)
+    is
+    (ap (λ us. flat_map numbered_term (enumerate_from 1 us)) all ∙ further_numbered 1 ts)
+
+-- the same with a last term behind them
+pub terms_in_three : (ts : List Term) (first : Term) (last : WrittenTerm) → 1 ≤ length ts → first ≡ get_or ts 0 first → first_term_text (written_term first) ++ (flat_map numbered_term (enumerate_from 1 (take (length ts - 1) (drop 1 ts))) ++ further_term_text (length ts) last) ≡ terms_text (map written_term ts ++ last ∷ [])
+terms_in_three [] first last h is = absurd (omega arith)
+terms_in_three (t ∷ ts) first last h is =
+    let all : take (length (t ∷ ts) - 1) ts ≡ ts = take_all (length (t ∷ ts) - 1) ts (omega arith) in
+    ap₂
+    (λ (u : Term) (rest : List ℕ). first_term_text (written_term u) ++ rest)
+    is
+    (ap (λ us. flat_map numbered_term (enumerate_from 1 us) ++ further_term_text (suc (length ts)) last) all
+    ∙ ap₂ (λ (xs : List ℕ) (n : ℕ). xs ++ further_term_text n last) (further_numbered 1 ts) (sym (add-one (length ts)))
+    ∙ further_append 1 ts last)
+
+-- the texts of 0 and 1
+
+zero_digits : number_text (short_number rational.zero) ≡ codes "0"
+unfolding short_text decimal_text point_and decimals digits rational.zero whole
+zero_digits = refl
+
+one_digits : number_text (short_number rational.one) ≡ codes "1"
+unfolding short_text decimal_text point_and decimals digits rational.one whole
+one_digits = refl
 
 -- 0 times a column, as the terms of a list
-pub zero_text : (name : List ℕ) → codes "0 " ++ name ≡ terms_text (record { number = whole_number (pos 0); name = name } ∷ [])
-zero_text name =
-    sym (append-nil (codes "0 " ++ name)) ∙ ap (λ digits. (digits ++ (codes " " ++ name)) ++ []) (sym zero_digit)
+pub zero_text : (columns : ℕ) → codes "0 " ++ first_name columns ≡ terms_text (or_zero columns [])
+zero_text columns =
+    sym (append-nil (codes "0 " ++ first_name columns)) ∙ ap (λ ds. (ds ++ (codes " " ++ first_name columns)) ++ []) (sym zero_digits)
 
--- the bound of a column from 0 up
-pub zero_bound_text : (j : ℕ) → codes " " ++ (column_name j ++ codes " >= 0\n") ≡ bound_text (written_column j)
-zero_bound_text j = ap (λ digits. codes " " ++ (column_name j ++ (codes " >= " ++ (digits ++ codes "\n")))) (sym zero_digit)
+pub one_bound_text : codes " 1 <= one <= 1\n" ≡ flat_map bound_text (written_offset ∷ [])
+one_bound_text =
+    ap (λ ds. codes " " ++ (ds ++ (codes " <= " ++ (offset_name ++ (codes " <= " ++ (ds ++ codes "\n")))))) (sym one_digits)
+    ∙ sym (append-nil (bound_text written_offset))
 
-one_bound_text : codes " 1 <= one <= 1\n" ≡ flat_map bound_text (written_one ∷ [])
-one_bound_text = rw one_digit
+-- a number as its sign and its magnitude
+pub signed_text : (b : Bool) (digits : List ℕ) → cond b (codes "-") [] ++ digits ≡ number_text (record { negative = b; absolute = digits })
+signed_text true digits = refl
+signed_text false digits = refl
 
--- the bounds of a file without other columns
-pub no_columns_text : (columns : ℕ) → columns ≡ 0 → codes " 1 <= one <= 1\n" ≡ flat_map bound_text (written_columns columns)
-no_columns_text columns none = subst (λ n. codes " 1 <= one <= 1\n" ≡ flat_map bound_text (written_columns n)) (sym none) one_bound_text
+-- integer columns
 
--- the terms of a program's list as its first term and the further ones
-pub terms_in_two : (columns : ℕ) (ts : List Term) (d : Term) → 1 ≤ length ts → first_term_text (written_term (get_or ts 0 d)) ++ numbered_text further_term_text 1 (map written_term (take (length ts - 1) (drop 1 ts))) ≡ terms_text (written_terms columns ts)
-terms_in_two columns [] d h = absurd (omega arith)
-terms_in_two columns (t ∷ ts) d h =
-    let all : take (length (t ∷ ts) - 1) ts ≡ ts = take_all (length (t ∷ ts) - 1) ts (omega arith) in
-    ap (λ rest. first_term_text (written_term t) ++ numbered_text further_term_text 1 (map written_term rest)) all
+-- the line of a column, if it is integer
+abbrev pub integer_text : ℕ × Column → List ℕ
+integer_text p = cond p.1.integer (general_text (written_column p)) []
 
--- no column of a program is integer
+integer_texts : (first : ℕ) (columns : List Column) → flat_map integer_text (enumerate_from first columns) ≡ flat_map general_text (integers (map written_column (enumerate_from first columns)))
+integer_texts first [] = refl
+integer_texts first (c ∷ cs) = by_mark c.integer (integer_texts (first + 1) cs)
+  where
+    by_mark : (b : Bool) → flat_map integer_text (enumerate_from (first + 1) cs) ≡ flat_map general_text (integers (map written_column (enumerate_from (first + 1) cs))) → cond b (general_text (written_column (first, c))) [] ++ flat_map integer_text (enumerate_from (first + 1) cs) ≡ flat_map general_text (cond b (written_column (first, c) ∷ integers (map written_column (enumerate_from (first + 1) cs))) (integers (map written_column (enumerate_from (first + 1) cs))))
+    by_mark true later = ap (λ rest. general_text (written_column (first, c)) ++ rest) later
+    by_mark false later = later
 
-no_integers : (a n : ℕ) → integers (map written_column (range_with_len a n)) ≡ []
-no_integers a zero = refl
-no_integers a (suc n) = no_integers (a + 1) n
+-- without an integer column there is no heading
+pub no_integers : (first : ℕ) (columns : List Column) → list_any (λ (c : Column). c.integer) columns ≡ false → integers (map written_column (enumerate_from first columns)) ≡ []
+no_integers first [] none = refl
+no_integers first (c ∷ cs) none = by_mark c.integer none (no_integers (first + 1) cs)
+  where
+    by_mark : (b : Bool) → (b || list_any (λ (d : Column). d.integer) cs) ≡ false → (list_any (λ (d : Column). d.integer) cs ≡ false → integers (map written_column (enumerate_from (first + 1) cs)) ≡ []) → cond b (written_column (first, c) ∷ integers (map written_column (enumerate_from (first + 1) cs))) (integers (map written_column (enumerate_from (first + 1) cs))) ≡ []
+    by_mark true none later = cc
+    by_mark false none later = later none
 
-no_generals : (none : Bool) (columns : ℕ) → generals_text (integers (cond none (written_one ∷ []) (map written_column (range_with_len 1 columns)))) ≡ []
-no_generals true columns = refl
-no_generals false columns = ap generals_text (no_integers 1 columns)
+headed : (cs : List WrittenColumn) → (cs ≡ [] → ⊥) → codes "Generals\n" ++ flat_map general_text cs ≡ generals_text cs
+headed [] some = absurd (some refl)
+headed (c ∷ cs) some = refl
+
+some_integers : (first : ℕ) (columns : List Column) → list_any (λ (c : Column). c.integer) columns ≡ true → integers (map written_column (enumerate_from first columns)) ≡ [] → ⊥
+some_integers first [] some none = cc
+some_integers first (c ∷ cs) some none = by_mark c.integer some none (some_integers (first + 1) cs)
+  where
+    by_mark : (b : Bool) → (b || list_any (λ (d : Column). d.integer) cs) ≡ true → cond b (written_column (first, c) ∷ integers (map written_column (enumerate_from (first + 1) cs))) (integers (map written_column (enumerate_from (first + 1) cs))) ≡ [] → (list_any (λ (d : Column). d.integer) cs ≡ true → integers (map written_column (enumerate_from (first + 1) cs)) ≡ [] → ⊥) → ⊥
+    by_mark true some none later = cc
+    by_mark false some none later = later some none
+
+-- the heading and the lines of the integer columns
+pub generals_in_two : (columns : List Column) → list_any (λ (c : Column). c.integer) columns ≡ true → codes "Generals\n" ++ flat_map integer_text (enumerate_from 1 columns) ≡ generals_text (integers (map written_column (enumerate_from 1 columns)))
+generals_in_two columns some =
+    ap (λ rest. codes "Generals\n" ++ rest) (integer_texts 1 columns)
+    ∙ headed (integers (map written_column (enumerate_from 1 columns))) (some_integers 1 columns some)
+
+pub no_generals : (columns : List Column) → list_any (λ (c : Column). c.integer) columns ≡ false → [] ≡ generals_text (integers (map written_column (enumerate_from 1 columns)))
+no_generals columns none = ap generals_text (sym (no_integers 1 columns none))
+
+-- the file
+
+-- the lines of a row
+abbrev pub row_lines : ℕ → ℕ × Row → List ℕ
+row_lines columns p = flat_map row_text (written_row columns p)
+
+-- the two lines of a range
+pub range_lines : (columns number : ℕ) (row : Row) (low high : Rational) → row.kind ≡ Range low high → row_text (compared (row_label number) (written_terms columns row.terms) AtLeast low) ++ row_text (compared (high_label number) (written_terms columns row.terms) AtMost high) ≡ row_lines columns (number, row)
+range_lines columns number row low high is =
+    ap
+    (λ rest. row_text (compared (row_label number) (written_terms columns row.terms) AtLeast low) ++ rest)
+    (sym (append-nil (row_text (compared (high_label number) (written_terms columns row.terms) AtMost high))))
+    ∙ ap (λ kind. flat_map row_text (rows_of_kind number (written_terms columns row.terms) kind)) (sym is)
+
+-- the bound of a numbered column
+abbrev pub numbered_bound : ℕ × Column → List ℕ
+numbered_bound p = bound_text (written_column p)
+
+offset_is_real : (b : Bool) → integers (cond b (written_offset ∷ []) []) ≡ []
+offset_is_real true = refl
+offset_is_real false = refl
+
+-- the column `one` isn't integer
+integers_but_offset : (p : LinearProgram) → integers (map written_column (enumerate_from 1 p.columns)) ≡ integers (written_columns p)
+integers_but_offset p =
+    sym
+    (filter-append (λ (c : WrittenColumn). c.integer) (map written_column (enumerate_from 1 p.columns)) (cond (has_offset p) (written_offset ∷ []) [])
+    ∙ ap (λ cs. integers (map written_column (enumerate_from 1 p.columns)) ++ cs) (offset_is_real (has_offset p))
+    ∙ append-nil (integers (map written_column (enumerate_from 1 p.columns))))
+
+bounds_in_two : (p : LinearProgram) (rest : List ℕ) → flat_map numbered_bound (enumerate_from 1 p.columns) ++ (flat_map bound_text (cond (has_offset p) (written_offset ∷ []) []) ++ rest) ≡ flat_map bound_text (written_columns p) ++ rest
+bounds_in_two p rest =
+    sym (append_assoc (flat_map numbered_bound (enumerate_from 1 p.columns)) (flat_map bound_text (cond (has_offset p) (written_offset ∷ []) [])) rest)
+    ∙ ap
+    (λ bounds. bounds ++ rest)
+    (ap (λ first. first ++ flat_map bound_text (cond (has_offset p) (written_offset ∷ []) [])) (flat_map_mapped bound_text written_column (enumerate_from 1 p.columns))
+    ∙ sym (flat_map_append bound_text (map written_column (enumerate_from 1 p.columns)) (cond (has_offset p) (written_offset ∷ []) [])))
 
 -- the text of a program as it is put
-pub text_in_pieces : (p : LinearProgram) → codes "\\ zimplc\n" ++ (aim_text p.target.maximize ++ (codes " obj: " ++ (terms_text (written_terms p.columns p.target.terms) ++ (codes "\nSubject To\n" ++ (flat_map row_text (written_rows p.columns 1 p.rows) ++ (codes "Bounds\n" ++ (flat_map bound_text (written_columns p.columns) ++ codes "End\n"))))))) ≡ lp_text p
+pub text_in_pieces : (p : LinearProgram) → codes "\\ zimplc\n" ++ (aim_text p.target.maximize ++ (codes " obj: " ++ (terms_text (written_objective (length p.columns) p.target.terms p.target.constant) ++ (codes "\nSubject To\n" ++ (flat_map (row_lines (length p.columns)) (enumerate_from 1 p.rows) ++ (codes "Bounds\n" ++ (flat_map numbered_bound (enumerate_from 1 p.columns) ++ (flat_map bound_text (cond (has_offset p) (written_offset ∷ []) []) ++ (generals_text (integers (map written_column (enumerate_from 1 p.columns))) ++ codes "End\n"))))))))) ≡ lp_text p
 text_in_pieces p =
+    let end : List ℕ = generals_text (integers (map written_column (enumerate_from 1 p.columns))) ++ codes "End\n" in
     ap
-    (λ generals. codes "\\ zimplc\n" ++ (aim_text p.target.maximize ++ (codes " obj: " ++ (terms_text (written_terms p.columns p.target.terms) ++ (codes "\nSubject To\n" ++ (flat_map row_text (written_rows p.columns 1 p.rows) ++ (codes "Bounds\n" ++ (flat_map bound_text (written_columns p.columns) ++ (generals ++ codes "End\n")))))))))
-    (sym (no_generals (p.columns == 0) p.columns))
+    (λ rest. codes "\\ zimplc\n" ++ (aim_text p.target.maximize ++ (codes " obj: " ++ (terms_text (written_objective (length p.columns) p.target.terms p.target.constant) ++ (codes "\nSubject To\n" ++ rest)))))
+    (ap₂
+    (λ (rows bounds : List ℕ). rows ++ (codes "Bounds\n" ++ bounds))
+    (flat_map_nested row_text (written_row (length p.columns)) (enumerate_from 1 p.rows))
+    (bounds_in_two p end
+    ∙ ap (λ cs. flat_map bound_text (written_columns p) ++ (generals_text cs ++ codes "End\n")) (integers_but_offset p)))

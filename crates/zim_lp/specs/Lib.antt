@@ -5,4 +5,5 @@ pub mod Syntax
 pub mod Reader
 pub mod FileText
 pub mod Text
+pub mod Within
 pub mod Correct

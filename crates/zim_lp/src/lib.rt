@@ -5,6 +5,10 @@
 //! program. The reader and the text share no definition. `specs/Correct.antt` states that the text says the program.
 #![tactic(auto)]
 
+mod columns;
+mod decimals;
+mod rows;
+mod terms;
 mod writer;
 
 pub use writer::{PutFault, write};

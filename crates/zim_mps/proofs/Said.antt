@@ -1,286 +1,138 @@
 -- What the lines that are written for a program say, section by section, and that their text gives them.
-use Rattle.std.proofs.Common.{◌≡◌, ℕ, zero, suc, ◌+◌, ◌<◌, ◌≤◌, ◌^◌, Bool, true, false, List, [], ◌∷◌, ◌++◌, length, map, Some, None, ℤ, pos, negsuc, neg_ℤ, refl, sym, ◌∙◌, ap, subst, append_assoc, arith, lit<}
-use Rattle.std.specs.Prelude.{codes, ◌==◌, if◌then◌else◌, find, cond, unwrap_or, option_map}
-use Rattle.std.specs.Fmt.{signed_decimal}
-use Rattle.std.specs.Str.{bytes_eq}
-use Rattle.std.specs.List.{AllByRecursion, flat_map, enumerate_from, range_with_len, filter}
-use Rattle.std.proofs.lemmas.Bool.Decides.{nat_tests}
-use Rattle.std.proofs.lemmas.List.Elements.{recursion_from_All}
-use Rattle.std.proofs.lemmas.List.Concat.{flat_map-append}
-use Rattle.zim_rational.specs.Rational.{whole}
+use Rattle.std.proofs.Common.{◌≡◌, ℕ, ◌+◌, ◌<◌, ◌≤◌, ◌^◌, Bool, true, false, List, [], ◌∷◌, ◌++◌, length, map, Option, Some, None, refl, sym, ap, subst, arith}
+use Rattle.std.specs.Prelude.{codes, ◌==◌, if◌then◌else◌, cond}
+use Rattle.std.specs.List.{AllByRecursion, flat_map, enumerate_from, filter}
+use Rattle.std.proofs.lemmas.List.{map-append}
+use Rattle.zim_rational.specs.Rational.{Rational, minus}
 use Rattle.zim_fields.specs.Fields.{Field, IsField}
 use Rattle.zim_fields.proofs.Cutting.{IsField-test}
+use Rattle.zim_fields.proofs.Decimals.{lettered_field}
+use Rattle.zim_decimal.specs.Short.{short_text}
+use Rattle.zim_linear.specs.Forms.{Term}
+use Rattle.zim_rows.specs.declared.rows.Column.{Column}
 use Rattle.zim_rows.specs.declared.rows.Row.{Row}
-use Rattle.zim_rows.specs.declared.rows.Sense.{Sense}
+use Rattle.zim_rows.specs.declared.rows.RowKind as rows
+use Rattle.zim_rows.specs.declared.rows.RowKind.TheVariants.{One, Range}
 use Rattle.zim_rows.specs.declared.rows.Sense.TheVariants as sense
-use Rattle.zim_rows.specs.Terms.{Term, IsShort, IsTerm}
-use Rattle.zim_rows.specs.Entries.{entries_of_row, entries_of_column}
-use Rattle.zim_rows.specs.Program.{LinearProgram, IsRow}
-use Rattle.zim_rows.specs.Named.{column_name, row_name}
+use Rattle.zim_rows.specs.Entries.{entries_of_row}
+use Rattle.zim_rows.specs.Program.{LinearProgram}
+use Rattle.zim_rows.specs.Named.{column_name, row_name, has_offset}
 use Rattle.zim_mps.specs.Program.{RowKind, RowLine, Entry, Setting, Bound, Program}
 use Rattle.zim_mps.specs.Program.RowKind.{Free, AtLeast, AtMost, Equal}
 use Rattle.zim_mps.specs.Sections.Line.{Fields}
-use Rattle.zim_mps.specs.Text.{sense_text, row_text, coefficient_of, minimised, cost_of, cost_text, entry_text, column_text, columns_text, right_text, bound_text, bounds_text}
-use Rattle.zim_mps.proofs.Lines.{Gives, Gives-nil, Gives-append, Gives-fields, Gives-each}
-use Rattle.zim_fields.proofs.Decimals.{lettered_field}
-use Rattle.zim_mps.proofs.Numbers.{signed_field}
+use Rattle.zim_mps.specs.Text.{NumberedRow, FileColumn, numbered_column, offset_column, numbered_columns, offset_columns, file_columns, kind_text, row_text, cost_text, entry_text, column_text, marker_text, columns_front, last_mark, columns_text, right_of, right_text, range_text_of, range_text, sides_text, bound_text}
+use Rattle.zim_mps.specs.Readable.{IsReadable, IsReadableSide, IsReadableTerm, IsReadableColumn, HasReadableSides, HasReadableRight, IsReadableRange, HasReadableRange}
+use Rattle.zim_mps.proofs.Lines.{Gives, Gives-nil, Gives-append, Gives-fields}
+use Rattle.zim_mps.proofs.Numbers.{number_field}
 
--- A row with its number.
-abbrev pub NumberedRow : Type 0
-NumberedRow = ℕ × Row
+-- ---- the fields of each line
 
--- A column as it is written: its name, its number in the objective and its entries.
-pub record FileColumn : Type 0 where
-  pub name : Field
-  pub cost : ℤ
-  pub entries : List Term
-
--- A line of COLUMNS as it is written.
-pub record Written : Type 0 where
-  pub column : Field
-  pub row : Field
-  pub number : ℤ
-
-abbrev pub written_of : FileColumn → List Written
-written_of c =
-    record { column = c.name; row = codes "obj"; number = c.cost }
-    ∷ map (λ (e : Term). let w : Written = record { column = c.name; row = row_name e.0; number = e.1 } in w) c.entries
-
--- The columns of a program's file.
-abbrev pub numbered_column : LinearProgram → ℕ → FileColumn
-numbered_column p j = record { name = column_name j; cost = cost_of p.target j; entries = entries_of_column p.rows j }
-
-abbrev pub columns_of : LinearProgram → ℕ → List FileColumn
-columns_of p zero = record { name = codes "one"; cost = pos 0; entries = [] } ∷ []
-columns_of p (suc n) = map (numbered_column p) (range_with_len 1 (suc n))
-
--- the fields of each line
-
-abbrev pub sense_field : Sense → Field
-sense_field sense.AtLeast = codes "G"
-sense_field sense.AtMost = codes "L"
-sense_field sense.Equal = codes "E"
+abbrev pub kind_field : rows.RowKind → Field
+kind_field (One sense.AtLeast right) = codes "G"
+kind_field (One sense.AtMost right) = codes "L"
+kind_field (One sense.Equal right) = codes "E"
+kind_field (Range low high) = codes "G"
 
 abbrev pub row_fields : NumberedRow → List Field
-row_fields r = sense_field r.1.sense ∷ row_name r.0 ∷ []
+row_fields r = kind_field r.1.kind ∷ row_name r.0 ∷ []
 
-abbrev pub written_fields : Written → List Field
-written_fields w = w.column ∷ w.row ∷ signed_decimal w.number ∷ []
+abbrev pub entry_fields : Field → Term → List Field
+entry_fields name e = name ∷ row_name e.0 ∷ short_text e.1 ∷ []
+
+abbrev pub column_lines : FileColumn → List (List Field)
+column_lines c = (c.name ∷ codes "obj" ∷ short_text c.cost ∷ []) ∷ map (entry_fields c.name) c.entries
+
+abbrev pub marker_lines : Bool → Bool → List (List Field)
+marker_lines false true = (codes "MARKER" ∷ codes "'MARKER'" ∷ codes "'INTORG'" ∷ []) ∷ []
+marker_lines true false = (codes "MARKER" ∷ codes "'MARKER'" ∷ codes "'INTEND'" ∷ []) ∷ []
+marker_lines false false = []
+marker_lines true true = []
+
+abbrev pub front_lines : Bool → List FileColumn → List (List Field)
+front_lines before [] = []
+front_lines before (c ∷ cs) = marker_lines before c.integer ++ (column_lines c ++ front_lines c.integer cs)
+
+abbrev pub columns_lines : List FileColumn → List (List Field)
+columns_lines cs = front_lines false cs ++ marker_lines (last_mark false cs) false
 
 abbrev pub right_fields : NumberedRow → List Field
-right_fields r = codes "RHS" ∷ row_name r.0 ∷ signed_decimal r.1.right ∷ []
+right_fields r = codes "RHS" ∷ row_name r.0 ∷ short_text (right_of r.1.kind) ∷ []
 
--- A line of BOUNDS as it is written: its word, its column and its number, if it has one.
-pub record WrittenBound : Type 0 where
-  pub word : Field
-  pub column : Field
-  pub number : List Field
+abbrev pub range_lines_of : ℕ → rows.RowKind → List (List Field)
+range_lines_of number (One s right) = []
+range_lines_of number (Range low high) = (codes "RNG" ∷ row_name number ∷ short_text (minus high low) ∷ []) ∷ []
 
-abbrev pub bound_fields : WrittenBound → List Field
-bound_fields b = b.word ∷ codes "BND" ∷ b.column ∷ b.number
+abbrev pub range_lines : NumberedRow → List (List Field)
+range_lines r = range_lines_of r.0 r.1.kind
 
-abbrev pub bounds_from : ℕ → ℕ → List WrittenBound
-bounds_from a zero = []
-bounds_from a (suc n) =
-    record { word = codes "LO"; column = column_name a; number = codes "0" ∷ [] }
-    ∷ record { word = codes "PL"; column = column_name a; number = [] }
-    ∷ bounds_from (a + 1) n
+abbrev pub end_fields : Field → Field → Rational → List Field
+end_fields word name q = word ∷ codes "BND" ∷ name ∷ short_text q ∷ []
 
-abbrev pub bounds_of : ℕ → List WrittenBound
-bounds_of zero =
-    record { word = codes "LO"; column = codes "one"; number = codes "1" ∷ [] }
-    ∷ record { word = codes "UP"; column = codes "one"; number = codes "1" ∷ [] }
-    ∷ []
-bounds_of (suc n) = bounds_from 1 (suc n)
+abbrev pub infinite_fields : Field → Field → List Field
+infinite_fields word name = word ∷ codes "BND" ∷ name ∷ []
 
--- what each line says
+abbrev pub sides_lines : Field → Option Rational → Option Rational → List (List Field)
+sides_lines name (Some l) (Some u) = end_fields (codes "LO") name l ∷ end_fields (codes "UP") name u ∷ []
+sides_lines name (Some l) None = end_fields (codes "LO") name l ∷ infinite_fields (codes "PL") name ∷ []
+sides_lines name None (Some u) = infinite_fields (codes "MI") name ∷ end_fields (codes "UP") name u ∷ []
+sides_lines name None None = infinite_fields (codes "FR") name ∷ []
 
-abbrev pub kind_of : Sense → RowKind
-kind_of sense.AtLeast = AtLeast
-kind_of sense.AtMost = AtMost
-kind_of sense.Equal = Equal
+abbrev pub bound_lines : FileColumn → List (List Field)
+bound_lines c = sides_lines c.name c.low c.high
+
+-- ---- what each line says
+
+abbrev pub said_kind : rows.RowKind → RowKind
+said_kind (One sense.AtLeast right) = AtLeast
+said_kind (One sense.AtMost right) = AtMost
+said_kind (One sense.Equal right) = Equal
+said_kind (Range low high) = AtLeast
 
 abbrev pub said_row : NumberedRow → RowLine
-said_row r = record { kind = kind_of r.1.sense; name = row_name r.0 }
+said_row r = record { kind = said_kind r.1.kind; name = row_name r.0 }
 
-abbrev pub said_entry : Written → Entry
-said_entry w = record { column = w.column; row = w.row; coefficient = whole w.number; integer = false }
+abbrev pub said_entry : Field → Bool → Term → Entry
+said_entry name integer e = record { column = name; row = row_name e.0; coefficient = e.1; integer = integer }
+
+abbrev pub said_cost : FileColumn → Entry
+said_cost c = record { column = c.name; row = codes "obj"; coefficient = c.cost; integer = c.integer }
+
+abbrev pub said_column : FileColumn → List Entry
+said_column c = said_cost c ∷ map (said_entry c.name c.integer) c.entries
 
 abbrev pub said_right : NumberedRow → Setting
-said_right r = record { row = row_name r.0; number = whole r.1.right }
+said_right r = record { row = row_name r.0; number = right_of r.1.kind }
 
-abbrev pub said_bounds_from : ℕ → ℕ → List Bound
-said_bounds_from a zero = []
-said_bounds_from a (suc n) =
-    record { column = column_name a; lower = Some (Some (whole (pos 0))); upper = None }
-    ∷ record { column = column_name a; lower = None; upper = Some None }
-    ∷ said_bounds_from (a + 1) n
+abbrev pub said_range_of : ℕ → rows.RowKind → List Setting
+said_range_of number (One s right) = []
+said_range_of number (Range low high) = record { row = row_name number; number = minus high low } ∷ []
 
-abbrev pub said_bounds : ℕ → List Bound
-said_bounds zero =
-    record { column = codes "one"; lower = Some (Some (whole (pos 1))); upper = None }
-    ∷ record { column = codes "one"; lower = None; upper = Some (Some (whole (pos 1))) }
-    ∷ []
-said_bounds (suc n) = said_bounds_from 1 (suc n)
+abbrev pub said_range : NumberedRow → List Setting
+said_range r = said_range_of r.0 r.1.kind
+
+abbrev pub said_sides : Field → Option Rational → Option Rational → List Bound
+said_sides name (Some l) (Some u) =
+    record { column = name; lower = Some (Some l); upper = None } ∷ record { column = name; lower = None; upper = Some (Some u) } ∷ []
+said_sides name (Some l) None =
+    record { column = name; lower = Some (Some l); upper = None } ∷ record { column = name; lower = None; upper = Some None } ∷ []
+said_sides name None (Some u) =
+    record { column = name; lower = Some None; upper = None } ∷ record { column = name; lower = None; upper = Some (Some u) } ∷ []
+said_sides name None None = record { column = name; lower = Some None; upper = Some None } ∷ []
+
+abbrev pub said_bound : FileColumn → List Bound
+said_bound c = said_sides c.name c.low c.high
 
 -- what the text of a program says
 abbrev pub said : LinearProgram → Program
 said p = record {
   rows = record { kind = Free; name = codes "obj" } ∷ map said_row (enumerate_from 1 p.rows);
-  entries = map said_entry (flat_map written_of (columns_of p p.columns));
+  entries = flat_map said_column (file_columns p);
   rhs = map said_right (enumerate_from 1 p.rows);
-  ranges = [];
-  bounds = said_bounds p.columns;
+  ranges = flat_map said_range (enumerate_from 1 p.rows);
+  bounds = flat_map said_bound (file_columns p);
 }
 
--- the fields are fields
-
-pub IsShort-neg : (z : ℤ) → IsShort z → IsShort (neg_ℤ z)
-IsShort-neg (pos zero) h = h
-IsShort-neg (pos (suc n)) h = h
-IsShort-neg (negsuc n) h = h
-
-pub row_name_field : (i : ℕ) → i < 2 ^ 64 → IsField (row_name i)
-row_name_field i h = lettered_field 114 i (record { blank = refl; line_end = refl }) h
-
-pub column_name_field : (j : ℕ) → j < 2 ^ 64 → IsField (column_name j)
-column_name_field j h = lettered_field 120 j (record { blank = refl; line_end = refl }) h
-
--- What a written line needs so that it reads back.
-pub record IsWritten (w : Written) : Type 0 where
-  pub column : IsField w.column
-  pub row : IsField w.row
-  pub marker : bytes_eq w.row (codes "'MARKER'") ≡ false
-  pub short : IsShort w.number
-
--- the text of a row
-row_gives : (r : NumberedRow) → r.0 < 2 ^ 64 → Gives (row_text r) (Fields (row_fields r) ∷ [])
-row_gives r h = by_sense r.1.sense
-  where
-    by_sense : (s : Sense) → Gives (sense_text s ++ (row_name r.0 ++ codes "\n")) (Fields (sense_field s ∷ row_name r.0 ∷ []) ∷ [])
-    by_sense sense.AtLeast = Gives-fields _ (codes "G") (row_name r.0 ∷ []) refl (IsField-test (codes "G") refl refl, (row_name_field r.0 h, tt))
-    by_sense sense.AtMost = Gives-fields _ (codes "L") (row_name r.0 ∷ []) refl (IsField-test (codes "L") refl refl, (row_name_field r.0 h, tt))
-    by_sense sense.Equal = Gives-fields _ (codes "E") (row_name r.0 ∷ []) refl (IsField-test (codes "E") refl refl, (row_name_field r.0 h, tt))
-
-rows_give : (first : ℕ) (rows : List Row) → first + length rows < 2 ^ 64 → AllByRecursion (λ (r : NumberedRow). Gives (row_text r) (Fields (row_fields r) ∷ [])) (enumerate_from first rows)
-rows_give first [] h = tt
-rows_give first (row ∷ rows) h = (row_gives (first, row) (omega arith), rows_give (first + 1) rows (omega arith))
-
--- the text of the rows
-pub row_texts : (rows : List Row) → 1 + length rows < 2 ^ 64 → Gives (flat_map row_text (enumerate_from 1 rows)) (map Fields (map row_fields (enumerate_from 1 rows)))
-row_texts rows h = Gives-each row_text row_fields (enumerate_from 1 rows) (rows_give 1 rows h)
-
-rights_give : (first : ℕ) (rows : List Row) → first + length rows < 2 ^ 64 → AllByRecursion (λ (r : Row). IsShort r.right) rows → AllByRecursion (λ (r : NumberedRow). Gives (right_text r) (Fields (right_fields r) ∷ [])) (enumerate_from first rows)
-rights_give first [] h all = tt
-rights_give first (row ∷ rows) h all = (
-  Gives-fields (right_text (first, row)) (codes "RHS") (row_name first ∷ signed_decimal row.right ∷ []) refl
-      (IsField-test (codes "RHS") refl refl, (row_name_field first (omega arith), (signed_field row.right all.0, tt))),
-  rights_give (first + 1) rows (omega arith) all.1,
-)
-
--- the text of the right sides
-pub right_texts : (rows : List Row) → 1 + length rows < 2 ^ 64 → AllByRecursion (λ (r : Row). IsShort r.right) rows → Gives (flat_map right_text (enumerate_from 1 rows)) (map Fields (map right_fields (enumerate_from 1 rows)))
-right_texts rows h all = Gives-each right_text right_fields (enumerate_from 1 rows) (rights_give 1 rows h all)
-
--- the columns
-
-abbrev written_text : Written → List ℕ
-written_text w = codes " " ++ (w.column ++ (codes " " ++ (w.row ++ (codes " " ++ (signed_decimal w.number ++ codes "\n")))))
-
-written_gives : (ws : List Written) → AllByRecursion IsWritten ws → AllByRecursion (λ (w : Written). Gives (written_text w) (Fields (written_fields w) ∷ [])) ws
-written_gives [] all = tt
-written_gives (w ∷ ws) all =
-    (Gives-fields (written_text w) w.column (w.row ∷ signed_decimal w.number ∷ []) refl (all.0.column, (all.0.row, (signed_field w.number all.0.short, tt))), written_gives ws all.1)
-
-entries_written : (name : Field) (entries : List Term) → flat_map (entry_text name) entries ≡ flat_map written_text (map (λ (e : Term). let w : Written = record { column = name; row = row_name e.0; number = e.1 } in w) entries)
-entries_written name [] = refl
-entries_written name (e ∷ es) = ap (λ t. entry_text name e ++ t) (entries_written name es)
-
-column_written : (c : FileColumn) → column_text c.name c.cost c.entries ≡ flat_map written_text (written_of c)
-column_written c = ap (λ t. cost_text c.name c.cost ++ t) (entries_written c.name c.entries)
-
-numbered_written : (p : LinearProgram) (a n : ℕ) → flat_map (λ (j : ℕ). column_text (column_name j) (cost_of p.target j) (entries_of_column p.rows j)) (range_with_len a n) ≡ flat_map written_text (flat_map written_of (map (numbered_column p) (range_with_len a n)))
-numbered_written p a zero = refl
-numbered_written p a (suc n) =
-    ap (λ t. t ++ flat_map (λ (j : ℕ). column_text (column_name j) (cost_of p.target j) (entries_of_column p.rows j)) (range_with_len (a + 1) n)) (column_written (numbered_column p a))
-    ∙ ap (λ t. flat_map written_text (written_of (numbered_column p a)) ++ t) (numbered_written p (a + 1) n)
-    ∙ sym (flat_map-append written_text (written_of (numbered_column p a)) (flat_map written_of (map (numbered_column p) (range_with_len (a + 1) n))))
-
-some_columns : (n : ℕ) → (suc n == 0) ≡ false
-some_columns n = grind (arith, nat_tests)
-
-columns_written : (p : LinearProgram) (n : ℕ) → (if n == 0 then column_text (codes "one") (pos 0) [] else flat_map (λ (j : ℕ). column_text (column_name j) (cost_of p.target j) (entries_of_column p.rows j)) (range_with_len 1 n)) ≡ flat_map written_text (flat_map written_of (columns_of p n))
-columns_written p zero = refl
-columns_written p (suc n) = rw (some_columns n) (numbered_written p 1 (suc n))
-
--- the text of the columns
-pub column_texts : (p : LinearProgram) → AllByRecursion IsWritten (flat_map written_of (columns_of p p.columns)) → Gives (columns_text p) (map Fields (map written_fields (flat_map written_of (columns_of p p.columns))))
-column_texts p all =
-    subst
-    (λ (t : List ℕ). Gives t (map Fields (map written_fields (flat_map written_of (columns_of p p.columns)))))
-    (sym (columns_written p p.columns))
-    (Gives-each written_text written_fields (flat_map written_of (columns_of p p.columns)) (written_gives (flat_map written_of (columns_of p p.columns)) all))
-
--- the bounds
-
-lower_gives : (j : ℕ) → j < 2 ^ 64 → Gives (codes " LO BND " ++ (column_name j ++ codes " 0\n")) (Fields (codes "LO" ∷ codes "BND" ∷ column_name j ∷ codes "0" ∷ []) ∷ [])
-lower_gives j h = Gives-fields _ (codes "LO") (codes "BND" ∷ column_name j ∷ codes "0" ∷ []) refl
-    (IsField-test (codes "LO") refl refl, (IsField-test (codes "BND") refl refl, (column_name_field j h, (IsField-test (codes "0") refl refl, tt))))
-
-upper_gives : (j : ℕ) → j < 2 ^ 64 → Gives (codes " PL BND " ++ (column_name j ++ codes "\n")) (Fields (codes "PL" ∷ codes "BND" ∷ column_name j ∷ []) ∷ [])
-upper_gives j h = Gives-fields _ (codes "PL") (codes "BND" ∷ column_name j ∷ []) refl
-    (IsField-test (codes "PL") refl refl, (IsField-test (codes "BND") refl refl, (column_name_field j h, tt)))
-
-bound_gives : (j : ℕ) → j < 2 ^ 64 → Gives (bound_text j) (Fields (codes "LO" ∷ codes "BND" ∷ column_name j ∷ codes "0" ∷ []) ∷ Fields (codes "PL" ∷ codes "BND" ∷ column_name j ∷ []) ∷ [])
-bound_gives j h =
-    subst
-    (λ (t : List ℕ). Gives t (Fields (codes "LO" ∷ codes "BND" ∷ column_name j ∷ codes "0" ∷ []) ∷ Fields (codes "PL" ∷ codes "BND" ∷ column_name j ∷ []) ∷ []))
-    (append_assoc (codes " LO BND " ++ column_name j) (codes " 0\n") (codes " PL BND " ++ (column_name j ++ codes "\n")))
-    (Gives-append _ _ _ _ (lower_gives j h) (upper_gives j h))
-
-bounds_give_from : (a n : ℕ) → a + n < 2 ^ 64 → Gives (flat_map bound_text (range_with_len a n)) (map Fields (map bound_fields (bounds_from a n)))
-bounds_give_from a zero h = Gives-nil
-bounds_give_from a (suc n) h = Gives-append (bound_text a) (flat_map bound_text (range_with_len (a + 1) n)) _ (map Fields (map bound_fields (bounds_from (a + 1) n))) (bound_gives a (omega arith)) (bounds_give_from (a + 1) n (omega arith))
-
--- the text of the bounds
-pub bound_texts : (n : ℕ) → 1 + n < 2 ^ 64 → Gives (bounds_text n) (map Fields (map bound_fields (bounds_of n)))
-bound_texts zero h =
-    Gives-append (codes " LO BND one 1\n") (codes " UP BND one 1\n") (Fields (codes "LO" ∷ codes "BND" ∷ codes "one" ∷ codes "1" ∷ []) ∷ []) (Fields (codes "UP" ∷ codes "BND" ∷ codes "one" ∷ codes "1" ∷ []) ∷ [])
-    (Gives-fields _ (codes "LO") (codes "BND" ∷ codes "one" ∷ codes "1" ∷ []) refl
-    (IsField-test (codes "LO") refl refl, (IsField-test (codes "BND") refl refl, (IsField-test (codes "one") refl refl, (IsField-test (codes "1") refl refl, tt)))))
-    (Gives-fields _ (codes "UP") (codes "BND" ∷ codes "one" ∷ codes "1" ∷ []) refl
-    (IsField-test (codes "UP") refl refl, (IsField-test (codes "BND") refl refl, (IsField-test (codes "one") refl refl, (IsField-test (codes "1") refl refl, tt)))))
-bound_texts (suc n) h =
-    subst (λ (b : Bool). Gives (if b then codes " LO BND one 1\n UP BND one 1\n" else flat_map bound_text (range_with_len 1 (suc n))) (map Fields (map bound_fields (bounds_of (suc n)))))
-    (sym (some_columns n)) (bounds_give_from 1 (suc n) (omega arith))
-
--- the numbers of a program are short
-
-coefficient_short : (columns : ℕ) (terms : List Term) (j : ℕ) → AllByRecursion (IsTerm columns) terms → IsShort (coefficient_of terms j)
-coefficient_short columns [] j all = lit< tt
-coefficient_short columns (t ∷ ts) j all = by_column (t.0 == j) (coefficient_short columns ts j all.1)
-  where
-    by_column : (b : Bool) → IsShort (coefficient_of ts j) → IsShort (unwrap_or (option_map (λ (t : Term). t.1) (cond b (Some t) (find (λ (t : Term). t.0 == j) ts))) (pos 0))
-    by_column true rest = all.0.short
-    by_column false rest = rest
-
-minimised_short : (m : Bool) (z : ℤ) → IsShort z → IsShort (minimised m z)
-minimised_short true z h = IsShort-neg z h
-minimised_short false z h = h
-
--- An entry of rows that are numbered from one number up to another.
-pub record IsEntry (first last : ℕ) (e : Term) : Type 0 where
-  pub from_first : first ≤ e.0
-  pub before_last : e.0 < last
-  pub short : IsShort e.1
-
-row_entries : (columns number j : ℕ) (terms : List Term) (last : ℕ) → number < last → AllByRecursion (IsTerm columns) terms → AllByRecursion (IsEntry number last) (entries_of_row number terms j)
-row_entries columns number j [] last h all = tt
-row_entries columns number j (t ∷ ts) last h all = by_column (t.0 == j) (row_entries columns number j ts last h all.1)
-  where
-    by_column : (b : Bool) → AllByRecursion (IsEntry number last) (entries_of_row number ts j) → AllByRecursion (IsEntry number last) (map (λ (t : Term). (number, t.1)) (cond b (t ∷ filter (λ (t : Term). t.0 == j) ts) (filter (λ (t : Term). t.0 == j) ts)))
-    by_column true rest = (record { from_first = omega arith; before_last = h; short = all.0.short }, rest)
-    by_column false rest = rest
+-- ---- lists
 
 pub all_append : {X : Type 0} (P : X → Type 0) (xs ys : List X) → AllByRecursion P xs → AllByRecursion P ys → AllByRecursion P (xs ++ ys)
 all_append P [] ys h k = k
@@ -290,30 +142,190 @@ pub all_weaker : {X : Type 0} (P Q : X → Type 0) → ((x : X) → P x → Q x)
 all_weaker P Q f [] h = tt
 all_weaker P Q f (x ∷ xs) h = (f x h.0, all_weaker P Q f xs h.1)
 
-pub column_entries : (columns first j : ℕ) (rows : List Row) → AllByRecursion (IsRow columns) rows → AllByRecursion (IsEntry first (first + length rows)) (flat_map (λ (r : NumberedRow). entries_of_row r.0 r.1.terms j) (enumerate_from first rows))
-column_entries columns first j [] all = tt
-column_entries columns first j (row ∷ rows) all =
-    all_append (IsEntry first (first + length (row ∷ rows))) (entries_of_row first row.terms j) (flat_map (λ (r : NumberedRow). entries_of_row r.0 r.1.terms j) (enumerate_from (first + 1) rows))
-    (row_entries columns first j row.terms (first + length (row ∷ rows)) (omega arith) (recursion_from_All (IsTerm columns) row.terms all.0.terms.each))
-    (all_weaker (IsEntry (first + 1) (first + 1 + length rows)) (IsEntry first (first + length (row ∷ rows)))
-    (λ e h. record { from_first = omega (arith, h.from_first); before_last = omega (arith, h.before_last); short = h.short })
-    (flat_map (λ (r : NumberedRow). entries_of_row r.0 r.1.terms j) (enumerate_from (first + 1) rows)) (column_entries columns (first + 1) j rows all.1))
+-- ---- the columns' names and entries
 
-entries_written_well : (name : Field) (last : ℕ) → IsField name → last < 2 ^ 64 → (entries : List Term) → AllByRecursion (IsEntry 1 last) entries → AllByRecursion IsWritten (map (λ (e : Term). let w : Written = record { column = name; row = row_name e.0; number = e.1 } in w) entries)
-entries_written_well name last field h [] all = tt
-entries_written_well name last field h (e ∷ es) all =
-    (record { column = field; row = row_name_field e.0 (omega (arith, all.0.before_last)); marker = refl; short = all.0.short }, entries_written_well name last field h es all.1)
+pub row_name_field : (i : ℕ) → i < 2 ^ 64 → IsField (row_name i)
+row_name_field i h = lettered_field 114 i (record { blank = refl; line_end = refl }) h
 
-numbered_well : (p : LinearProgram) (a n : ℕ) → a + n < 2 ^ 64 → 1 + length p.rows < 2 ^ 64 → AllByRecursion (IsTerm p.columns) p.target.terms → AllByRecursion (IsRow p.columns) p.rows → AllByRecursion IsWritten (flat_map written_of (map (numbered_column p) (range_with_len a n)))
-numbered_well p a zero h k terms rows = tt
-numbered_well p a (suc n) h k terms rows =
-    all_append IsWritten (written_of (numbered_column p a)) (flat_map written_of (map (numbered_column p) (range_with_len (a + 1) n))) (
-      record { column = column_name_field a (omega arith); row = IsField-test (codes "obj") refl refl; marker = refl; short = minimised_short p.target.maximize (coefficient_of p.target.terms a) (coefficient_short p.columns p.target.terms a terms) },
-      entries_written_well (column_name a) (1 + length p.rows) (column_name_field a (omega arith)) k (entries_of_column p.rows a) (column_entries p.columns 1 a p.rows rows),
-    )
-    (numbered_well p (a + 1) n (omega arith) k terms rows)
+pub column_name_field : (j : ℕ) → j < 2 ^ 64 → IsField (column_name j)
+column_name_field j h = lettered_field 120 j (record { blank = refl; line_end = refl }) h
 
--- the lines of the columns read back
-pub columns_well : (p : LinearProgram) (n : ℕ) → 1 + n < 2 ^ 64 → 1 + length p.rows < 2 ^ 64 → AllByRecursion (IsTerm p.columns) p.target.terms → AllByRecursion (IsRow p.columns) p.rows → AllByRecursion IsWritten (flat_map written_of (columns_of p n))
-columns_well p zero h k terms rows = (record { column = IsField-test (codes "one") refl refl; row = IsField-test (codes "obj") refl refl; marker = refl; short = lit< tt }, tt)
-columns_well p (suc n) h k terms rows = numbered_well p 1 (suc n) (omega arith) k terms rows
+-- An entry of rows that are numbered from one number up to another.
+pub record IsEntry (first last : ℕ) (e : Term) : Type 0 where
+  pub from_first : first ≤ e.0
+  pub before_last : e.0 < last
+
+row_entries : (number j : ℕ) (terms : List Term) (last : ℕ) → number < last → AllByRecursion (IsEntry number last) (entries_of_row number terms j)
+row_entries number j [] last h = tt
+row_entries number j (t ∷ ts) last h = by_column (t.0 == j) (row_entries number j ts last h)
+  where
+    by_column : (b : Bool) → AllByRecursion (IsEntry number last) (entries_of_row number ts j) → AllByRecursion (IsEntry number last) (map (λ (t : Term). (number, t.1)) (cond b (t ∷ filter (λ (t : Term). t.0 == j) ts) (filter (λ (t : Term). t.0 == j) ts)))
+    by_column true rest = (record { from_first = omega arith; before_last = h }, rest)
+    by_column false rest = rest
+
+column_entries : (first j : ℕ) (some : List Row) → AllByRecursion (IsEntry first (first + length some)) (flat_map (λ (r : NumberedRow). entries_of_row r.0 r.1.terms j) (enumerate_from first some))
+column_entries first j [] = tt
+column_entries first j (row ∷ some) =
+    all_append (IsEntry first (first + length (row ∷ some))) (entries_of_row first row.terms j) (flat_map (λ (r : NumberedRow). entries_of_row r.0 r.1.terms j) (enumerate_from (first + 1) some))
+    (row_entries first j row.terms (first + length (row ∷ some)) (omega arith))
+    (all_weaker (IsEntry (first + 1) (first + 1 + length some)) (IsEntry first (first + length (row ∷ some)))
+    (λ e h. record { from_first = omega (arith, h.from_first); before_last = omega (arith, h.before_last) })
+    (flat_map (λ (r : NumberedRow). entries_of_row r.0 r.1.terms j) (enumerate_from (first + 1) some)) (column_entries (first + 1) j some))
+
+-- A column whose name is a field, and whose entries are of so many rows, numbered from 1.
+pub record IsOverRows (rows : ℕ) (c : FileColumn) : Type 0 where
+  pub name : IsField c.name
+  pub entries : AllByRecursion (IsEntry 1 (1 + rows)) c.entries
+
+numbered_over_rows : (p : LinearProgram) (first : ℕ) (columns : List Column) → first + length columns < 2 ^ 64 → AllByRecursion (IsOverRows (length p.rows)) (map (numbered_column p) (enumerate_from first columns))
+numbered_over_rows p first [] h = tt
+numbered_over_rows p first (c ∷ cs) h =
+    (record { name = column_name_field first (omega arith); entries = column_entries 1 first p.rows }, numbered_over_rows p (first + 1) cs (omega arith))
+
+offset_over_rows : (p : LinearProgram) (b : Bool) → AllByRecursion (IsOverRows (length p.rows)) (if b then offset_column p ∷ [] else [])
+offset_over_rows p true = (record { name = IsField-test (codes "one") refl refl; entries = tt }, tt)
+offset_over_rows p false = tt
+
+-- the columns of a program's file are over its rows
+pub over_rows : (p : LinearProgram) → 1 + length p.columns < 2 ^ 64 → AllByRecursion (IsOverRows (length p.rows)) (file_columns p)
+over_rows p few =
+    all_append (IsOverRows (length p.rows)) (numbered_columns p) (offset_columns p) (numbered_over_rows p 1 p.columns few) (offset_over_rows p (has_offset p))
+
+-- ---- texts and their lines
+
+-- A text gives lines of fields, whatever follows.
+abbrev pub GivesFields : List ℕ → List (List Field) → Type 0
+GivesFields text lines = Gives text (map Fields lines)
+
+gives_both : (a b : List ℕ) (ls ms : List (List Field)) → GivesFields a ls → GivesFields b ms → GivesFields (a ++ b) (ls ++ ms)
+gives_both a b ls ms first second =
+    subst (Gives (a ++ b)) (sym (map-append Fields ls ms)) (Gives-append a b (map Fields ls) (map Fields ms) first second)
+
+-- the lines of each member of a list
+gives_each : {X : Type 0} (text : X → List ℕ) (lines : X → List (List Field)) (xs : List X) → AllByRecursion (λ x. GivesFields (text x) (lines x)) xs → GivesFields (flat_map text xs) (flat_map lines xs)
+gives_each text lines [] all = Gives-nil
+gives_each text lines (x ∷ xs) all = gives_both (text x) (flat_map text xs) (lines x) (flat_map lines xs) all.0 (gives_each text lines xs all.1)
+
+one_line : {X : Type 0} (line : X → List Field) (xs : List X) → flat_map (λ x. line x ∷ []) xs ≡ map line xs
+one_line line [] = refl
+one_line line (x ∷ xs) = ap (λ ls. line x ∷ ls) (one_line line xs)
+
+-- the same where each has one line
+gives_each_one : {X : Type 0} (text : X → List ℕ) (line : X → List Field) (xs : List X) → AllByRecursion (λ x. GivesFields (text x) (line x ∷ [])) xs → GivesFields (flat_map text xs) (map line xs)
+gives_each_one text line xs all = subst (GivesFields (flat_map text xs)) (one_line line xs) (gives_each text (λ x. line x ∷ []) xs all)
+
+-- ---- rows
+
+row_gives : (r : NumberedRow) → r.0 < 2 ^ 64 → GivesFields (row_text r) (row_fields r ∷ [])
+row_gives r h = by_kind r.1.kind
+  where
+    by_kind : (kind : rows.RowKind) → GivesFields (kind_text kind ++ (row_name r.0 ++ codes "\n")) ((kind_field kind ∷ row_name r.0 ∷ []) ∷ [])
+    by_kind (One sense.AtLeast right) = Gives-fields _ (codes "G") (row_name r.0 ∷ []) refl (IsField-test (codes "G") refl refl, (row_name_field r.0 h, tt))
+    by_kind (One sense.AtMost right) = Gives-fields _ (codes "L") (row_name r.0 ∷ []) refl (IsField-test (codes "L") refl refl, (row_name_field r.0 h, tt))
+    by_kind (One sense.Equal right) = Gives-fields _ (codes "E") (row_name r.0 ∷ []) refl (IsField-test (codes "E") refl refl, (row_name_field r.0 h, tt))
+    by_kind (Range low high) = Gives-fields _ (codes "G") (row_name r.0 ∷ []) refl (IsField-test (codes "G") refl refl, (row_name_field r.0 h, tt))
+
+rows_give : (first : ℕ) (some : List Row) → first + length some < 2 ^ 64 → AllByRecursion (λ (r : NumberedRow). GivesFields (row_text r) (row_fields r ∷ [])) (enumerate_from first some)
+rows_give first [] h = tt
+rows_give first (row ∷ some) h = (row_gives (first, row) (omega arith), rows_give (first + 1) some (omega arith))
+
+-- the text of the rows
+pub row_texts : (some : List Row) → 1 + length some < 2 ^ 64 → GivesFields (flat_map row_text (enumerate_from 1 some)) (map row_fields (enumerate_from 1 some))
+row_texts some h = gives_each_one row_text row_fields (enumerate_from 1 some) (rows_give 1 some h)
+
+-- ---- right sides and ranges
+
+rights_give : (first : ℕ) (some : List Row) → first + length some < 2 ^ 64 → AllByRecursion HasReadableRight some → AllByRecursion (λ (r : NumberedRow). GivesFields (right_text r) (right_fields r ∷ [])) (enumerate_from first some)
+rights_give first [] h all = tt
+rights_give first (row ∷ some) h all = (
+  Gives-fields (right_text (first, row)) (codes "RHS") (row_name first ∷ short_text (right_of row.kind) ∷ []) refl
+      (IsField-test (codes "RHS") refl refl, (row_name_field first (omega arith), (number_field (short_text (right_of row.kind)) (right_of row.kind) all.0, tt))),
+  rights_give (first + 1) some (omega arith) all.1,
+)
+
+-- the text of the right sides
+pub right_texts : (some : List Row) → 1 + length some < 2 ^ 64 → AllByRecursion HasReadableRight some → GivesFields (flat_map right_text (enumerate_from 1 some)) (map right_fields (enumerate_from 1 some))
+right_texts some h all = gives_each_one right_text right_fields (enumerate_from 1 some) (rights_give 1 some h all)
+
+range_gives : (number : ℕ) (kind : rows.RowKind) → number < 2 ^ 64 → IsReadableRange kind → GivesFields (range_text_of number kind) (range_lines_of number kind)
+range_gives number (One s right) h reads = Gives-nil
+range_gives number (Range low high) h reads =
+    Gives-fields (range_text_of number (Range low high)) (codes "RNG") (row_name number ∷ short_text (minus high low) ∷ []) refl
+    (IsField-test (codes "RNG") refl refl, (row_name_field number h, (number_field (short_text (minus high low)) (minus high low) reads, tt)))
+
+ranges_give : (first : ℕ) (some : List Row) → first + length some < 2 ^ 64 → AllByRecursion HasReadableRange some → AllByRecursion (λ (r : NumberedRow). GivesFields (range_text r) (range_lines r)) (enumerate_from first some)
+ranges_give first [] h all = tt
+ranges_give first (row ∷ some) h all = (range_gives first row.kind (omega arith) all.0, ranges_give (first + 1) some (omega arith) all.1)
+
+-- the text of the ranges
+pub range_texts : (some : List Row) → 1 + length some < 2 ^ 64 → AllByRecursion HasReadableRange some → GivesFields (flat_map range_text (enumerate_from 1 some)) (flat_map range_lines (enumerate_from 1 some))
+range_texts some h all = gives_each range_text range_lines (enumerate_from 1 some) (ranges_give 1 some h all)
+
+-- ---- columns
+
+entries_give : (name : Field) (last : ℕ) (entries : List Term) → IsField name → last < 2 ^ 64 → AllByRecursion (IsEntry 1 last) entries → AllByRecursion IsReadableTerm entries → AllByRecursion (λ (e : Term). GivesFields (entry_text name e) (entry_fields name e ∷ [])) entries
+entries_give name last [] field h all reads = tt
+entries_give name last (e ∷ es) field h all reads = (
+  Gives-fields (entry_text name e) name (row_name e.0 ∷ short_text e.1 ∷ []) refl
+      (field, (row_name_field e.0 (omega (arith, all.0.before_last)), (number_field (short_text e.1) e.1 reads.0, tt))),
+  entries_give name last es field h all.1 reads.1,
+)
+
+column_gives : (n : ℕ) (c : FileColumn) → 1 + n < 2 ^ 64 → IsOverRows n c → IsReadableColumn c → GivesFields (column_text c) (column_lines c)
+column_gives n c h is reads =
+    gives_both (cost_text c.name c.cost) (flat_map (entry_text c.name) c.entries) ((c.name ∷ codes "obj" ∷ short_text c.cost ∷ []) ∷ []) (map (entry_fields c.name) c.entries)
+    (Gives-fields (cost_text c.name c.cost) c.name (codes "obj" ∷ short_text c.cost ∷ []) refl
+    (is.name, (IsField-test (codes "obj") refl refl, (number_field (short_text c.cost) c.cost reads.cost, tt))))
+    (gives_each_one (entry_text c.name) (entry_fields c.name) c.entries (entries_give c.name (1 + n) c.entries is.name h is.entries reads.entries))
+
+marker_gives : (before integer : Bool) → GivesFields (marker_text before integer) (marker_lines before integer)
+marker_gives false true =
+    Gives-fields (codes " MARKER 'MARKER' 'INTORG'\n") (codes "MARKER") (codes "'MARKER'" ∷ codes "'INTORG'" ∷ []) refl
+    (IsField-test (codes "MARKER") refl refl, (IsField-test (codes "'MARKER'") refl refl, (IsField-test (codes "'INTORG'") refl refl, tt)))
+marker_gives true false =
+    Gives-fields (codes " MARKER 'MARKER' 'INTEND'\n") (codes "MARKER") (codes "'MARKER'" ∷ codes "'INTEND'" ∷ []) refl
+    (IsField-test (codes "MARKER") refl refl, (IsField-test (codes "'MARKER'") refl refl, (IsField-test (codes "'INTEND'") refl refl, tt)))
+marker_gives false false = Gives-nil
+marker_gives true true = Gives-nil
+
+front_gives : (n : ℕ) (before : Bool) (cs : List FileColumn) → 1 + n < 2 ^ 64 → AllByRecursion (IsOverRows n) cs → AllByRecursion IsReadableColumn cs → GivesFields (columns_front before cs) (front_lines before cs)
+front_gives n before [] h all reads = Gives-nil
+front_gives n before (c ∷ cs) h all reads =
+    gives_both (marker_text before c.integer) (column_text c ++ columns_front c.integer cs) (marker_lines before c.integer) (column_lines c ++ front_lines c.integer cs)
+    (marker_gives before c.integer)
+    (gives_both (column_text c) (columns_front c.integer cs) (column_lines c) (front_lines c.integer cs) (column_gives n c h all.0 reads.0) (front_gives n c.integer cs h all.1 reads.1))
+
+-- the text of the columns
+pub column_texts : (n : ℕ) (cs : List FileColumn) → 1 + n < 2 ^ 64 → AllByRecursion (IsOverRows n) cs → AllByRecursion IsReadableColumn cs → GivesFields (columns_text cs) (columns_lines cs)
+column_texts n cs h all reads =
+    gives_both (columns_front false cs) (marker_text (last_mark false cs) false) (front_lines false cs) (marker_lines (last_mark false cs) false)
+    (front_gives n false cs h all reads) (marker_gives (last_mark false cs) false)
+
+-- ---- bounds
+
+end_gives : (word name : Field) (q : Rational) → IsField word → IsField name → IsReadable q → GivesFields (codes " " ++ (word ++ (codes " BND " ++ (name ++ (codes " " ++ (short_text q ++ codes "\n")))))) (end_fields word name q ∷ [])
+end_gives word name q w n reads =
+    Gives-fields _ word (codes "BND" ∷ name ∷ short_text q ∷ []) refl (w, (IsField-test (codes "BND") refl refl, (n, (number_field (short_text q) q reads, tt))))
+
+infinite_gives : (word name : Field) → IsField word → IsField name → GivesFields (codes " " ++ (word ++ (codes " BND " ++ (name ++ codes "\n")))) (infinite_fields word name ∷ [])
+infinite_gives word name w n = Gives-fields _ word (codes "BND" ∷ name ∷ []) refl (w, (IsField-test (codes "BND") refl refl, (n, tt)))
+
+sides_give : (name : Field) (low high : Option Rational) → IsField name → IsReadableSide low → IsReadableSide high → GivesFields (sides_text name low high) (sides_lines name low high)
+sides_give name (Some l) (Some u) field low high =
+    gives_both _ _ (end_fields (codes "LO") name l ∷ []) (end_fields (codes "UP") name u ∷ [])
+    (end_gives (codes "LO") name l (IsField-test (codes "LO") refl refl) field low) (end_gives (codes "UP") name u (IsField-test (codes "UP") refl refl) field high)
+sides_give name (Some l) None field low high =
+    gives_both _ _ (end_fields (codes "LO") name l ∷ []) (infinite_fields (codes "PL") name ∷ [])
+    (end_gives (codes "LO") name l (IsField-test (codes "LO") refl refl) field low) (infinite_gives (codes "PL") name (IsField-test (codes "PL") refl refl) field)
+sides_give name None (Some u) field low high =
+    gives_both _ _ (infinite_fields (codes "MI") name ∷ []) (end_fields (codes "UP") name u ∷ [])
+    (infinite_gives (codes "MI") name (IsField-test (codes "MI") refl refl) field) (end_gives (codes "UP") name u (IsField-test (codes "UP") refl refl) field high)
+sides_give name None None field low high = infinite_gives (codes "FR") name (IsField-test (codes "FR") refl refl) field
+
+bounds_give : (n : ℕ) (cs : List FileColumn) → AllByRecursion (IsOverRows n) cs → AllByRecursion HasReadableSides cs → AllByRecursion (λ (c : FileColumn). GivesFields (bound_text c) (bound_lines c)) cs
+bounds_give n [] all reads = tt
+bounds_give n (c ∷ cs) all reads = (sides_give c.name c.low c.high all.0.name reads.0.low reads.0.high, bounds_give n cs all.1 reads.1)
+
+-- the text of the bounds
+pub bound_texts : (n : ℕ) (cs : List FileColumn) → AllByRecursion (IsOverRows n) cs → AllByRecursion HasReadableSides cs → GivesFields (flat_map bound_text cs) (flat_map bound_lines cs)
+bound_texts n cs all reads = gives_each bound_text bound_lines cs (bounds_give n cs all reads)

@@ -1,62 +1,62 @@
--- The text of a program says the program, minimised.
-use Rattle.std.proofs.Common.{◌≡◌, ℕ, true, List, Some, refl, sym, ◌∙◌, ap, subst, arith, map, false}
+-- The text of a program says the program, minimised, where the texts of its numbers read back.
+use Rattle.std.proofs.Common.{◌≡◌, ◌+◌, ◌<◌, ◌^◌, ◌≤◌, true, false, List, ℕ, Some, length, map, refl, sym, ◌∙◌, ap, subst, arith}
 use Rattle.std.specs.Prelude.{codes, option_and_then}
 use Rattle.std.specs.List.{AllByRecursion}
-use Rattle.std.proofs.lemmas.List.Elements.{recursion_from_All}
+use Rattle.zim_rational.specs.Rational.{whole, times}
 use Rattle.zim_instance.specs.Instance as instance
 use Rattle.zim_instance.specs.Instance.{Instance, Point, KeepsRow}
 use Rattle.zim_instance.specs.System.{Says}
-use Rattle.zim_rows.specs.declared.rows.Row.{Row}
-use Rattle.zim_rows.specs.Terms.{IsShort, IsTerm, Term}
-use Rattle.zim_rows.specs.Program.{LinearProgram, IsRow, IsProgram}
+use Rattle.zim_rows.specs.Program.{LinearProgram, IsProgram}
+use Rattle.zim_rows.specs.Named.{named_objective}
+use Rattle.zim_rows.proofs.NamedLemmas.{file_columns_distinct}
+use Rattle.zim_rows.proofs.RepresentLemmas.{represents_by, one_is_one, objective_in_file}
 use Rattle.zim_mps.specs.Program.{Program, is_consistent, is_free, names_of_rows, only_name, meaning, instance_of}
-use Rattle.zim_mps.specs.Text.{minimised, mps_text}
-use Rattle.zim_mps.specs.Correct.{minimised_system, mps_factor, SaysMinimised}
-use Rattle.zim_rows.specs.Named.{named_term}
-use Rattle.zim_rows.proofs.RepresentLemmas.{represents_by}
-use Rattle.zim_mps.proofs.Signs.{sum_minimised}
-use Rattle.zim_mps.proofs.Said.{said, all_weaker}
+use Rattle.zim_mps.specs.Text.{mps_text}
+use Rattle.zim_mps.specs.Readable.{IsReadableProgram}
+use Rattle.zim_mps.specs.Correct.{minimised_term, minimised_system, mps_factor, SaysMinimised}
+use Rattle.zim_mps.proofs.Said.{said}
 use Rattle.zim_mps.proofs.Parsing.{text_read}
 use Rattle.zim_mps.proofs.Consistent.{consistent, one_free}
 use Rattle.zim_mps.proofs.Meaning.{rows_same}
-use Rattle.zim_mps.proofs.Columns.{columns_same}
-use Rattle.zim_mps.proofs.Objective.{objective_same}
+use Rattle.zim_mps.proofs.ColumnLemmas.{columns_same}
+use Rattle.zim_mps.proofs.Objective.{objective_same, sum_minimised}
+
+few_columns : (p : LinearProgram) → IsProgram p.columns p.rows p.target → 1 + length p.columns < 2 ^ 64
+few_columns p is = let few : length p.columns ≤ 1000000 = is.few_columns in omega arith
+
+few_rows : (p : LinearProgram) → IsProgram p.columns p.rows p.target → 1 + length p.rows < 2 ^ 64
+few_rows p is = let few : length p.rows ≤ 1000000 = is.few_rows in omega arith
 
 meaning_by : (program : Program) (name : List ℕ) → is_consistent program ≡ true → only_name (names_of_rows is_free program.rows) ≡ Some name → meaning program ≡ Some (instance_of program name)
 meaning_by program name e f = rw (e, f) refl
 
 says : (p : LinearProgram) → IsProgram p.columns p.rows p.target → Says (instance_of (said p) (codes "obj")) (minimised_system p)
 says p is =
-    let same = rows_same p (omega (arith, is.few_rows)) is.all_rows in
+    let same = rows_same p (few_columns p is) (few_rows p is) is.each_row in
     record {
-      columns = λ name. columns_same p name;
+      columns = columns_same p (file_columns_distinct p is);
       rows = λ point. (
         (λ k. subst (λ (rows : List instance.Row). AllByRecursion (KeepsRow point) rows) same k),
         (λ k. subst (λ (rows : List instance.Row). AllByRecursion (KeepsRow point) rows) (sym same) k),
       );
-      objective = λ point. objective_same p point is.objective.terms;
+      objective = λ point. objective_same p point is.objective.terms is.objective.columns;
       maximises = refl;
     }
 
 -- the text of a program says it
-pub text_says : (p : LinearProgram) → IsProgram p.columns p.rows p.target → SaysMinimised (mps_text p) p
-text_says p is =
-    let rows : AllByRecursion (IsRow p.columns) p.rows = recursion_from_All (IsRow p.columns) p.rows is.all_rows in
-    let shorts : AllByRecursion (λ (r : Row). IsShort r.right) p.rows = all_weaker (IsRow p.columns) (λ (r : Row). IsShort r.right) (λ r h. h.short) p.rows rows in
+pub text_says : (p : LinearProgram) → IsProgram p.columns p.rows p.target → IsReadableProgram p → SaysMinimised (mps_text p) p
+text_says p is reads =
+    let i : Instance = instance_of (said p) (codes "obj") in
+    let objective : List instance.Term = map (minimised_term p.target.maximize) (named_objective p) in
     record {
-      instance = instance_of (said p) (codes "obj");
+      instance = i;
       read =
-          ap (option_and_then meaning) (text_read p (omega (arith, is.few_columns)) (omega (arith, is.few_rows)) (recursion_from_All (IsTerm p.columns) p.target.terms is.objective.terms.each) rows shorts)
-          ∙ meaning_by (said p) (codes "obj") (consistent p (omega (arith, is.few_rows)) rows) (one_free p);
+          ap (option_and_then meaning) (text_read p (few_columns p is) (few_rows p is) reads)
+          ∙ meaning_by (said p) (codes "obj") (consistent p (few_columns p is) (few_rows p is) (file_columns_distinct p is)) (one_free p);
       says = says p is;
       represents =
-          represents_by
-          (instance_of (said p) (codes "obj"))
-          p
-          (map (λ (t : Term). named_term (t.0, minimised p.target.maximize t.1)) p.target.terms)
-          false
-          (mps_factor p.target.maximize)
-          (says p is)
-          is
-          (λ point. sum_minimised p.target.maximize p.columns point p.target.terms is.objective.terms.each);
+          represents_by i p objective false (mps_factor p.target.maximize) (says p is) is
+          (λ point k.
+          sum_minimised p.target.maximize point (named_objective p)
+          ∙ ap (times (whole (mps_factor p.target.maximize))) (objective_in_file p point is (one_is_one i p objective false point (says p is) k)));
     }

@@ -1,19 +1,23 @@
 -- What it means that an MPS text says a linear program.
 use Rattle.std.specs.Prelude.{◌≡◌, ℕ, false, List, map, Some, pos, negsuc, if◌then◌else◌, Bool, ℤ}
+use Rattle.zim_instance.specs.Instance as instance
 use Rattle.zim_instance.specs.Instance.{Instance}
 use Rattle.zim_instance.specs.System.{System, Says}
-use Rattle.zim_rows.specs.Terms.{Term}
 use Rattle.zim_rows.specs.Program.{LinearProgram}
-use Rattle.zim_rows.specs.Named.{named_system, named_term}
+use Rattle.zim_rows.specs.Named.{named_system, named_objective}
 use Rattle.zim_rows.specs.Represents.{Represents}
 use Rattle.zim_mps.specs.Reader.{mps}
 use Rattle.zim_mps.specs.Text.{minimised}
+
+-- A term of the objective, its coefficient negated where the program maximises.
+abbrev pub minimised_term : Bool → instance.Term → instance.Term
+minimised_term maximises term = record { name = term.name; coefficient = minimised maximises term.coefficient }
 
 -- The program by name, minimised: where it maximises, each coefficient of its objective is the negative.
 abbrev pub minimised_system : LinearProgram → System
 minimised_system program =
     record (named_system program) {
-      objective = map (λ (t : Term). named_term (t.0, minimised program.target.maximize t.1)) program.target.terms;
+      objective = map (minimised_term program.target.maximize) (named_objective program);
       maximises = false;
     }
 

@@ -2,7 +2,7 @@
 use Rattle.std.specs.Prelude.{ℕ, Bool, false, not, ◌&&◌, if◌then◌else◌, List, [], ◌∷◌, Option, Some, None, option_map, option_and_then, codes}
 use Rattle.std.specs.Str.{bytes_eq}
 use Rattle.zim_rational.specs.Rational.{Rational}
-use Rattle.zim_fields.specs.Numbers.{number_of}
+use Rattle.zim_decimal.specs.Reading.{number_of_text}
 use Rattle.zim_fields.specs.Fields.{Field}
 use Rattle.zim_mps.specs.Sections.{Sections}
 use Rattle.zim_mps.specs.Program.{RowKind, RowLine, Entry, Setting, Bound, Program}
@@ -30,7 +30,7 @@ read_row _ = None
 -- A line of COLUMNS that is no marker: a column, a row and a coefficient.
 abbrev pub read_entry : Bool → List Field → Option Entry
 read_entry integer (column ∷ row ∷ number ∷ []) =
-    option_map (λ q. record { column = column; row = row; coefficient = q; integer = integer }) (number_of number)
+    option_map (λ q. record { column = column; row = row; coefficient = q; integer = integer }) (number_of_text number)
 read_entry integer _ = None
 
 -- A line of COLUMNS is a marker where its second field says so.
@@ -55,7 +55,7 @@ read_entries integer (line ∷ lines) =
 -- A line of RHS or RANGES: the word of the section, a row and a number.
 abbrev pub read_setting : List ℕ → List Field → Option Setting
 read_setting word (first ∷ row ∷ number ∷ []) =
-    if bytes_eq first word then option_map (λ q. record { row = row; number = q }) (number_of number) else None
+    if bytes_eq first word then option_map (λ q. record { row = row; number = q }) (number_of_text number) else None
 read_setting word _ = None
 
 -- `MI`, `PL` and `FR` make ends infinite.
@@ -77,7 +77,7 @@ finite_bound kind column q =
 abbrev pub read_bound : List Field → Option Bound
 read_bound (kind ∷ word ∷ column ∷ []) = if bytes_eq word (codes "BND") then infinite_bound kind column else None
 read_bound (kind ∷ word ∷ column ∷ number ∷ []) =
-    if bytes_eq word (codes "BND") then option_and_then (finite_bound kind column) (number_of number) else None
+    if bytes_eq word (codes "BND") then option_and_then (finite_bound kind column) (number_of_text number) else None
 read_bound _ = None
 
 -- The lines of all sections.

@@ -5,7 +5,11 @@
 //! minimised.
 #![tactic(auto)]
 
+mod bounds;
+mod columns;
 mod costs;
+mod names;
+mod rows;
 mod writer;
 
 pub use writer::{PutFault, write};

@@ -1,4 +1,16 @@
-mod EntryLemmas
-mod ProgramLemmas
+pub mod ShortLemmas
+pub mod FactorLemmas
+pub mod ScaleLemmas
+pub mod PointLemmas
+pub mod RowLemmas
+pub mod SystemLemmas
+pub mod ScaledLemmas
+pub mod EntryLemmas
+pub mod ColumnLemmas
+pub mod CoveredLemmas
+pub mod FinishLemmas
+pub mod ExtendLemmas
+pub mod CutLemmas
 pub mod NamedLemmas
 pub mod RepresentLemmas
+mod Examples

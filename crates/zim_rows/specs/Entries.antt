@@ -1,8 +1,17 @@
 -- The coefficients of rows, column by column.
-use Rattle.std.specs.Prelude.{ℕ, ◌==◌, List, map}
+use Rattle.std.specs.Prelude.{ℕ, ◌==◌, ◌≤◌, List, map, All}
 use Rattle.std.specs.List.{filter, flat_map, enumerate_from, range_with_len}
+use Rattle.zim_linear.specs.Forms.{Term}
 use Rattle.zim_rows.specs.declared.rows.Row.{Row}
-use Rattle.zim_rows.specs.Terms.{Term}
+
+-- A term's column is one of those from 1 to n.
+pub record IsOver (n : ℕ) (term : Term) : Type 0 where
+  pub from_one : 1 ≤ term.0
+  pub in_columns : term.0 ≤ n
+
+-- The columns of a row's terms are among those from 1 to n.
+pub record IsOverRow (n : ℕ) (row : Row) : Type 0 where
+  pub each : All (IsOver n) row.terms
 
 -- The entry that a row of this number gives to a column: the row's number and the column's coefficient, if it has one.
 abbrev pub entries_of_row : ℕ → List Term → ℕ → List Term

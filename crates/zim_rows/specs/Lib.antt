@@ -1,7 +1,11 @@
-pub mod Terms
-pub mod Entries
+pub mod System
 pub mod Program
 pub mod Points
-pub mod Finished
+pub mod Factors
+pub mod Scaled
+pub mod Covered
 pub mod Named
 pub mod Represents
+pub mod Entries
+pub mod Props
+pub mod Finished

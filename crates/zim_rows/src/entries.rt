@@ -1,18 +1,17 @@
 ghost use Rattle.std.specs.Prelude.{◌≡◌, ℕ, ◌+◌, ◌-◌, ◌<◌, ◌≤◌, List, [], ◌∷◌, ◌++◌, length, All, IfOk, OnOk, slice_set, slice_index_or, vec_len};
-ghost use Rattle.zim_rows.specs.Entries.{entries_of_row, entries_by_column};
-ghost use Rattle.zim_rows.specs.Program.{IsRow};
-ghost use Rattle.zim_rows.specs.Terms.{IsTerm};
+ghost use Rattle.zim_rows.specs.Entries.{IsOver, IsOverRow, entries_of_row, entries_by_column};
 
-use crate::rows::{MOST_ROWS, Row};
+use crate::rows::Row;
 use std::alloc::Global;
 use zim_fault::{Memory, Sequence};
+use zim_linear::Term;
 
 /// An empty list for each column.
-fn empty_lists(alloc: Global, columns: u32) -> Result<Vec<Sequence<(u32, i64)>>, Memory>
+fn empty_lists(alloc: Global, columns: usize) -> Result<Vec<Sequence<Term>>, Memory>
     ensures len { IfOk result (λ lists. vec_len lists ≡ columns) }
     ensures empty { IfOk result (λ lists. (j : ℕ) → slice_index_or lists.items j [] ≡ []) }
 {
-    let mut lists = Vec::with_capacity(alloc, columns as usize)?;
+    let mut lists = Vec::with_capacity(alloc, columns)?;
     for _column in 0..columns {
         lists.push(Sequence::new(alloc))?;
     }
@@ -20,11 +19,7 @@ fn empty_lists(alloc: Global, columns: u32) -> Result<Vec<Sequence<(u32, i64)>>,
 }
 
 /// Adds an entry at the end of the list of a column, counted from 1.
-fn add_entry(
-    lists: &mut Vec<Sequence<(u32, i64)>>,
-    column: u32,
-    entry: (u32, i64),
-) -> Result<(), Memory>
+fn add_entry(lists: &mut Vec<Sequence<Term>>, column: u32, entry: Term) -> Result<(), Memory>
     requires from_one { 1 ≤ column }
     requires in_columns { column ≤ vec_len lists.old }
     ensures { OnOk result
@@ -37,11 +32,11 @@ fn add_entry(
 
 /// Adds the terms of a row of that number at the ends of the lists of their columns.
 fn add_row_entries(
-    lists: &mut Vec<Sequence<(u32, i64)>>,
+    lists: &mut Vec<Sequence<Term>>,
     number: u32,
-    terms: &[(u32, i64)],
+    terms: &[Term],
 ) -> Result<(), Memory>
-    requires { All (IsTerm (vec_len lists.old)) terms.now }
+    requires { All (IsOver (vec_len lists.old)) terms.now }
     ensures len { OnOk result (vec_len lists.new ≡ vec_len lists.old) }
     ensures added { OnOk result
         ((j : ℕ) → j < vec_len lists.old
@@ -57,11 +52,11 @@ fn add_row_entries(
 /// The entries of rows by column, in time proportional to their number and that of the columns and rows.
 pub(crate) fn list_entries(
     alloc: Global,
-    columns: u32,
+    columns: usize,
     rows: &[Row],
-) -> Result<Sequence<Sequence<(u32, i64)>>, Memory>
-    requires rows { All (IsRow columns) rows.now }
-    requires few { length rows.now ≤ MOST_ROWS }
+) -> Result<Sequence<Sequence<Term>>, Memory>
+    requires rows { All (IsOverRow columns) rows.now }
+    requires few { length rows.now ≤ 1000000 }
     ensures { IfOk result (λ lists. lists ≡ entries_by_column columns rows.now) }
 {
     let mut lists = empty_lists(alloc, columns)?;

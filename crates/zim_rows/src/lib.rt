@@ -1,16 +1,27 @@
-//! A linear program while it is built, and when it is finished: columns from 0 up, rows and an objective, all by
-//! number.
+//! A linear program while it is built, and when it is finished: columns with their marks and sides, rows, ranges and an
+//! objective, all by number and with exact fractions.
 //!
-//! `System` takes columns and rows one at a time, and `finish` turns it into a `Finished`, which also has the entries
-//! by column. `specs/Points.antt` says which numbers solve such a program and what its objective is at them;
-//! `specs/Named.antt` gives its columns the names that they have in files.
+//! `System` takes columns and rows one at a time, and `finish` turns it into a `Finished`: each row and the objective
+//! are multiplied by the least factor that makes their numbers decimals, and the entries stand by column too.
+//! `specs/Points` says which numbers solve a system and what its objective is at them, `specs/Factors` what the factors
+//! are and when a number passes the limit, and `specs/Scaled` what finishing answers. `specs/Covered` says which sides
+//! files have, `specs/Named` has the names of columns and rows in files, and `specs/Represents` says when what a file says is
+//! a finished system.
 #![tactic(auto)]
 
 mod entries;
+mod factors;
+mod faults;
 mod finished;
+mod laws;
 mod rows;
+mod scaled;
 mod system;
+#[cfg(test)]
+mod tests;
 
+pub use faults::{EncodeFault, FinishFault, RowFault};
 pub use finished::Finished;
-pub use rows::{MOST_COLUMNS, MOST_ROWS, Row, RowFault, RowFrom, Sense, Target};
+pub use laws::{factors_are_least, later_points_begin_with_earlier_ones};
+pub use rows::{Column, GivenRow, Objective, Row, RowFrom, RowKind, Sense, Target};
 pub use system::System;

@@ -1,12 +1,6 @@
-ghost use Rattle.std.specs.Prelude.{◌≡◌};
-
-use zim_fault::{Memory, Place, Sequence};
-
-/// How many columns a system has at most.
-pub const MOST_COLUMNS: u32 = 1_000_000;
-
-/// How many rows a system has at most.
-pub const MOST_ROWS: usize = 1_000_000;
+use zim_fault::{Place, Sequence};
+use zim_fraction::Fraction;
+use zim_linear::{Form, Sides, Term};
 
 /// Which statement made a row.
 #[derive(Clone, Copy, Debug, PartialEq, Eq, Hash)]
@@ -25,44 +19,63 @@ pub enum Sense {
     Equal,
 }
 
-/// A row: the sum of coefficient times column compares with `right`.
+/// What a row asks of the sum of its terms.
+#[derive(Clone, Copy, Debug, Drop)]
+pub enum RowKind {
+    /// The sum compares with one right side.
+    One(Sense, Fraction),
+    /// The sum lies from the first number, the low side, to the second, the high one.
+    Range(Fraction, Fraction),
+}
+
+/// What a column may be: a whole number alone where it is integer, and from the low side to the high one.
+#[derive(Clone, Copy, Debug, Drop)]
+pub struct Column {
+    pub integer: bool,
+    pub sides: Sides,
+}
+
+/// A row of a system, with the numbers that it was given.
+#[derive(Debug, Drop)]
+pub struct GivenRow {
+    pub from: RowFrom,
+    /// Each a column's number, from 1, and its coefficient.
+    pub terms: Sequence<Term>,
+    pub kind: RowKind,
+}
+
+/// The objective of a system, with the numbers that it was given.
+#[derive(Debug, Drop)]
+pub struct Objective {
+    pub maximize: bool,
+    /// Where the objective stands in the files of the model, and where a number of it that is past is told.
+    pub place: Place,
+    pub form: Form,
+}
+
+/// A row whose numbers are multiplied by its factor.
 #[derive(Debug, Drop)]
 pub struct Row {
     pub from: RowFrom,
+    /// What the numbers that were given are multiplied by, at least 1: `finish` takes the least number that makes them
+    /// decimals of at most 15 places.
+    pub factor: i128,
     /// Each a column's number, from 1, and its coefficient.
-    pub terms: Sequence<(u32, i64)>,
-    pub sense: Sense,
-    pub right: i64,
+    pub terms: Sequence<Term>,
+    pub kind: RowKind,
 }
 
-/// What is to be least or greatest. Without an objective it minimises, and has no place and no terms.
+/// What is to be least or greatest, its numbers multiplied by its factor. Without an objective it minimises, and has
+/// no place, the factor 1, no terms and the constant 0.
 #[derive(Debug, Drop)]
 pub struct Target {
     pub maximize: bool,
     /// Where the objective stands in the files of the model, if there is one.
     pub place: Option<Place>,
+    /// What the numbers that were given are multiplied by, at least 1: `finish` takes the least number that makes them
+    /// decimals of at most 15 places.
+    pub factor: i128,
     /// Each a column's number, from 1, and its coefficient.
-    pub terms: Sequence<(u32, i64)>,
-}
-
-/// Why a system took no further column or row.
-#[derive(Clone, Copy, Debug, PartialEq, Eq, Hash)]
-pub enum RowFault {
-    /// 1,000,000 rows are there.
-    TooManyRows,
-    /// 1,000,000 columns are there.
-    TooManyColumns,
-    /// Memory was refused.
-    Memory,
-}
-
-impl From<Memory> for RowFault {
-    ghost use Rattle.std.specs.Prelude.{◌≡◌};
-    ghost use Rattle.zim_rows.specs.declared.rows.RowFault.TheVariants as fault;
-
-    ghost from_gives = { λ _ e. e ≡ fault.Memory };
-
-    fn from(_refused: Memory) -> RowFault {
-        RowFault::Memory
-    }
+    pub terms: Sequence<Term>,
+    pub constant: Fraction,
 }

@@ -1,127 +1,192 @@
-ghost use Rattle.std.specs.Prelude.{◌≡◌, ◌+◌, ◌<◌, ◌≤◌, ◌↔◌, ◌∷◌, [], ◌++◌, length, if◌then◌else◌, nat_lt, Ok, Err, Some, IfOk, OnOk, OnErr, IsErrOf};
-ghost use Rattle.zim_rows.specs.Terms.{IsShort, AreTerms};
-ghost use Rattle.zim_rows.specs.Program.{empty_program};
-ghost use Rattle.zim_rows.specs.Finished.{program_of};
+ghost use Rattle.std.specs.Prelude.{◌≡◌, ℕ, ◌<◌, ◌≤◌, ◌↔◌, List, [], ◌∷◌, ◌++◌, length, map, slice_index_or, false, IsTrue, Option, Some, IfOk, OnOk, OnErr};
+ghost use Rattle.zim_rational.specs.Rational.{Rational, IsBelow, times, whole};
+ghost use Rattle.zim_linear.specs.Forms.{AreTerms, AreColumns};
+ghost use Rattle.zim_linear.specs.Ends.{IsUncrossed};
+ghost use Rattle.zim_rows.specs.System as exact;
+ghost use Rattle.zim_rows.specs.System.{empty_system, column_of, column_at, row_of, with_objective, AreWholeSides, IsKind, ColumnAnswer, RowAdded};
+ghost use Rattle.zim_rows.specs.Points.{IsSystemPoint, IsPoint, system_objective_at, objective_at};
+ghost use Rattle.zim_rows.specs.Scaled.{FinishAnswer};
+ghost use Rattle.zim_rows.specs.Covered.{IsCovered, written_program};
+ghost use Rattle.zim_rows.specs.Finished.{program_of, answered};
 
 use crate::entries::list_entries;
+use crate::faults::{FinishFault, RowFault};
 use crate::finished::Finished;
-use crate::rows::{MOST_COLUMNS, MOST_ROWS, Row, RowFault, RowFrom, Sense, Target};
+use crate::rows::{Column, GivenRow, Objective, RowFrom, RowKind, Sense};
+use crate::scaled::{scaled_rows, scaled_target};
 use std::alloc::Global;
 use std::marker::Model;
 use zim_fault::{Memory, Place, Sequence};
+use zim_fraction::Fraction;
+use zim_linear::{Form, Sides, Term};
 
-/// A linear program that is being built: columns from 0 up, rows and an objective.
+/// How many columns a system has at most, and how many rows.
+const MOST: usize = 1_000_000;
+
+/// A linear program that is being built: columns, rows and an objective.
 ///
-/// Contracts see it as a `LinearProgram`: the number of its columns, its rows in their order, and its objective.
+/// Contracts see it as a `LinearSystem`: its columns and its rows in their order, and its objective, if it has one.
 #[derive(Debug, Drop)]
 pub struct System {
     alloc: Global,
-    columns: u32,
-    rows: Sequence<Row>,
-    target: Target,
+    marks: Vec<bool>,
+    sides: Sequence<Sides>,
+    rows: Sequence<GivenRow>,
+    objective: Option<Objective>,
 }
 
 impl Model for System {
-    ghost use Rattle.zim_rows.specs.Program.{LinearProgram, IsProgram};
+    ghost use Rattle.zim_rows.specs.System.{LinearSystem, columns_of, IsKept};
 
-    ghost Value = { LinearProgram };
+    ghost Value = { LinearSystem };
 
-    ghost view = { λ it. record { columns = it.columns; rows = it.rows; target = it.target } };
+    ghost view = { λ it. record {
+      columns = columns_of it.marks.items it.sides;
+      rows = it.rows;
+      objective = it.objective;
+    } };
 
-    ghost invariant = { λ it. IsProgram it.columns it.rows it.target };
+    ghost invariant = { λ it. IsKept it.marks.items it.sides it.rows it.objective };
 }
 
 impl System {
     /// A system without columns, rows and objective. It takes no memory yet.
     pub fn new(alloc: Global) -> System
-        ensures { result ≡ empty_program }
+        ensures { result ≡ empty_system }
     {
         System {
             alloc,
-            columns: 0,
+            marks: Vec::new(alloc),
+            sides: Sequence::new(alloc),
             rows: Sequence::new(alloc),
-            target: Target {
-                maximize: false,
-                place: None,
-                terms: Sequence::new(alloc),
-            },
+            objective: None,
         }
     }
 
-    /// Adds a column that is real and from 0 up, and gives its number, from 1.
-    ///
-    /// `TooManyColumns` comes exactly where 1,000,000 are there, and leaves the system as it was. No other fault comes.
-    pub fn new_column(&mut self) -> Result<u32, RowFault>
-        ensures answer { result ≡ (if nat_lt self.old.columns MOST_COLUMNS then Ok (self.old.columns + 1) else Err RowFault.TooManyColumns) }
-        ensures ok { OnOk result (self.new ≡ record self.old { columns = self.old.columns + 1 }) }
-        ensures err { OnErr result (self.new ≡ self.old) }
+    /// The sides of all columns; those of column 1 stand first.
+    pub fn sides(&self) -> &[Sides]
+        ensures { result.now ≡ map (λ c. c.sides) self.now.columns }
     {
-        if self.columns < MOST_COLUMNS {
-            self.columns += 1;
-            Ok(self.columns)
-        } else {
-            Err(RowFault::TooManyColumns)
-        }
+        self.sides.as_slice()
     }
 
-    /// Adds a row. Its terms are over the system's columns, in their order and without coefficients 0.
+    /// Whether column j, counted from 1, is integer.
+    pub fn is_integer(&self, j: u32) -> bool
+        requires from_one { 1 ≤ j }
+        requires in_columns { j ≤ length self.now.columns }
+        ensures { result ≡ (column_at self.now.columns j).integer }
+    {
+        mark_at(self.marks.as_slice(), j as usize - 1)
+    }
+
+    /// Adds a column, and gives its number, from 1.
+    ///
+    /// `TooManyColumns` comes exactly where 1,000,000 are there. After a fault the system is as it was.
+    pub fn new_column(&mut self, integer: bool, sides: Sides) -> Result<u32, RowFault>
+        requires uncrossed { IsUncrossed sides }
+        requires whole { IsTrue integer → AreWholeSides sides }
+        ensures { ColumnAnswer self.old (column_of integer sides) self.new result }
+    {
+        if self.sides.len() >= MOST {
+            return Err(RowFault::TooManyColumns);
+        }
+        let number = match push_pair(&mut self.marks, &mut self.sides, integer, &sides) {
+            Ok(number) => number,
+            Err(_) => return Err(RowFault::Memory),
+        };
+        Ok(number)
+    }
+
+    /// Adds the row that the terms of the form compare with a right side; the form's constant isn't used.
     ///
     /// `TooManyRows` comes exactly where 1,000,000 are there. After a fault the system is as it was.
     pub fn add_row(
         &mut self,
         from: RowFrom,
-        terms: &[(u32, i64)],
+        form: &Form,
         sense: Sense,
-        right: i64,
+        right: Fraction,
     ) -> Result<(), RowFault>
-        requires terms { AreTerms self.old.columns terms.now }
-        requires right { IsShort right }
-        ensures ok { OnOk result
-            (self.new
-            ≡ record self.old {
-              rows = self.old.rows ++ record { from = from; terms = terms.now; sense = sense; right = right } ∷ [];
-            }) }
-        ensures err { OnErr result (self.new ≡ self.old) }
-        ensures full { IsErrOf result RowFault.TooManyRows ↔ (MOST_ROWS ≤ length self.old.rows) }
-        ensures no_column { ¬ IsErrOf result RowFault.TooManyColumns }
+        requires { AreColumns (length self.old.columns) form.now.terms }
+        ensures { RowAdded self.old (row_of from form.now.terms (RowKind.One sense right)) self.new result }
     {
-        if self.rows.len() >= MOST_ROWS {
+        self.push_row(from, form.terms(), RowKind::One(sense, right))
+    }
+
+    /// Adds the row that the terms of the form lie between two numbers; the form's constant isn't used.
+    ///
+    /// `TooManyRows` comes exactly where 1,000,000 are there. After a fault the system is as it was.
+    pub fn add_range(
+        &mut self,
+        from: RowFrom,
+        form: &Form,
+        low: Fraction,
+        high: Fraction,
+    ) -> Result<(), RowFault>
+        requires columns { AreColumns (length self.old.columns) form.now.terms }
+        requires below { IsBelow low high }
+        ensures { RowAdded self.old (row_of from form.now.terms (RowKind.Range low high)) self.new result }
+    {
+        self.push_row(from, form.terms(), RowKind::Range(low, high))
+    }
+
+    // Adds a row of these terms and this kind at the end.
+    fn push_row(&mut self, from: RowFrom, terms: &[Term], kind: RowKind) -> Result<(), RowFault>
+        requires terms { AreTerms terms.now }
+        requires columns { AreColumns (length self.old.columns) terms.now }
+        requires kind { IsKind kind }
+        ensures { RowAdded self.old (row_of from terms.now kind) self.new result }
+    {
+        if self.rows.len() >= MOST {
             return Err(RowFault::TooManyRows);
         }
         let terms = Sequence::from_slice(self.alloc, terms)?;
-        self.rows.push(Row {
-            from,
-            terms,
-            sense,
-            right,
-        })?;
+        self.rows.push(GivenRow { from, terms, kind })?;
         Ok(())
     }
 
-    /// Makes the terms the objective. They are over the system's columns, in their order and without coefficients 0.
-    pub fn set_objective(&mut self, maximize: bool, place: Place, terms: Vec<(u32, i64)>)
-        requires { AreTerms self.old.columns terms.items }
-        ensures { self.new
-            ≡ record self.old { target = record { maximize = maximize; place = Some place; terms = terms.items } } }
+    /// Makes the form the objective, in place of the one that was there. The place is where `finish` tells a number of
+    /// the objective that is past.
+    pub fn set_objective(&mut self, maximize: bool, place: Place, form: Form)
+        requires { AreColumns (length self.old.columns) form.terms }
+        ensures { self.new ≡ with_objective self.old maximize place form }
     {
-        self.target = Target {
+        self.objective = Some(Objective {
             maximize,
-            place: Some(place),
-            terms: Sequence::from_vec(terms),
-        };
+            place,
+            form,
+        });
     }
 
-    /// The system with its entries by column. Columns, rows and objective stay.
-    pub fn finish(self) -> Result<Finished, Memory>
-        ensures { IfOk result (λ finished. program_of finished ≡ self) }
+    /// The system with each row and the objective times the least factor that makes their numbers decimals of at most
+    /// 15 places, and with its entries by column. Points stay, and the objective is at each of them its factor times
+    /// what it was. Where the system is covered, they also stay when the sides are left out that aren't such decimals,
+    /// since each of these stands as a row. The time is proportional to the numbers of columns, rows and entries.
+    ///
+    /// The fault is `Past`, with the place of the first row of which the factor, a scaled number or the difference of a
+    /// range's scaled sides passes 128 bits, or else with that of such an objective. No other fault comes.
+    pub fn finish(self) -> Result<Finished, FinishFault>
+        ensures answer { FinishAnswer self (answered result) }
+        ensures points { IfOk result
+            (λ finished. (numbers : List Rational) → IsPoint (program_of finished) numbers ↔ IsSystemPoint self numbers) }
+        ensures objective { IfOk result
+            (λ finished. (numbers : List Rational) →
+            objective_at (program_of finished) numbers ≡ times (system_objective_at self numbers) (whole finished.target.factor)) }
+        ensures covered { IfOk result
+            (λ finished. IsCovered self → (numbers : List Rational) →
+            IsPoint (written_program (program_of finished)) numbers ↔ IsSystemPoint self numbers) }
     {
         let System {
             alloc,
-            columns,
+            marks,
+            sides,
             rows,
-            target,
+            objective,
         } = self;
-        let entries = list_entries(alloc, columns, rows.as_slice())?;
+        let rows = scaled_rows(alloc, rows.as_slice())?;
+        let target = scaled_target(alloc, &objective)?;
+        let columns = all_columns(alloc, marks.as_slice(), sides.as_slice())?;
+        let entries = list_entries(alloc, columns.len(), rows.as_slice())?;
         Ok(Finished {
             columns,
             rows,
@@ -129,4 +194,65 @@ impl System {
             target,
         })
     }
+}
+
+// Adds a mark and sides at the ends of their lists, and gives the number of sides; where these find no room, the mark
+// is taken off again.
+fn push_pair(
+    marks: &mut Vec<bool>,
+    sides: &mut Sequence<Sides>,
+    mark: bool,
+    pair: &Sides,
+) -> Result<u32, Memory>
+    requires { length sides.old < 1000000 }
+    ensures number { IfOk result (λ n. n ≡ length sides.new) }
+    ensures ok_marks { OnOk result (marks.new.items ≡ marks.old.items ++ mark ∷ []) }
+    ensures ok_sides { OnOk result (sides.new ≡ sides.old ++ pair.now ∷ []) }
+    ensures err_marks { OnErr result (marks.new.items ≡ marks.old.items) }
+    ensures err_sides { OnErr result (sides.new ≡ sides.old) }
+{
+    marks.push(mark)?;
+    match push_sides(sides, pair) {
+        Ok(()) => Ok(sides.len() as u32),
+        Err(refused) => {
+            marks.pop();
+            Err(refused)
+        }
+    }
+}
+
+// Adds sides at the end of their list.
+fn push_sides(sides: &mut Sequence<Sides>, pair: &Sides) -> Result<(), Memory>
+    ensures ok { OnOk result (sides.new ≡ sides.old ++ pair.now ∷ []) }
+    ensures err { OnErr result (sides.new ≡ sides.old) }
+{
+    sides.push(Sides {
+        low: pair.low,
+        high: pair.high,
+    })?;
+    Ok(())
+}
+
+// The mark that stands behind i others.
+fn mark_at(marks: &[bool], i: usize) -> bool
+    requires { i < length marks.now }
+    ensures { result ≡ slice_index_or marks.now i false }
+{
+    marks[i]
+}
+
+// The columns of marks and sides.
+fn all_columns(alloc: Global, marks: &[bool], sides: &[Sides]) -> Result<Sequence<Column>, Memory>
+    requires { length marks.now ≡ length sides.now }
+    ensures { IfOk result (λ columns. columns ≡ exact.columns_of marks.now sides.now) }
+{
+    let mut columns = Vec::with_capacity(alloc, sides.len())?;
+    for (i, sides) in sides.iter().enumerate() {
+        let integer = mark_at(marks, i);
+        columns.push(Column {
+            integer,
+            sides: *sides,
+        })?;
+    }
+    Ok(Sequence::from_vec(columns))
 }

@@ -13,5 +13,5 @@ cut_from : (point : Point) (a : ℕ) (variables : List (List ℕ)) → map (λ (
 cut_from point a [] = refl
 cut_from point a (name ∷ names) = ap (λ (qs : List Rational). number_at point (column_name a) ∷ qs) (cut_from point (a + 1) names)
 
-pub cut_said : (p : LinearProgram) (variables : List (List ℕ)) (point : Point) → length variables ≡ p.columns → cut (table_said p variables) point ≡ numbers_in_file p.columns point
+pub cut_said : (p : LinearProgram) (variables : List (List ℕ)) (point : Point) → length variables ≡ length p.columns → cut (table_said p variables) point ≡ numbers_in_file (length p.columns) point
 cut_said p variables point one_each = cut_from point 1 variables ∙ ap (λ (n : ℕ). numbers_in_file n point) one_each

@@ -1,5 +1,5 @@
 -- Which programs with which names can be written as a table, and what table the text is.
-use Rattle.std.specs.Prelude.{◌≡◌, ℕ, ◌<◌, pos, negsuc, if◌then◌else◌, List, [], length, map, All, IfSome}
+use Rattle.std.specs.Prelude.{◌≡◌, ℕ, ◌<◌, List, [], length, map, All, IfSome}
 use Rattle.std.specs.List.{enumerate_from}
 use Rattle.std.specs.List.Sorted.{IsNonDecreasingBy}
 use Rattle.zim_fields.specs.Fields.{IsField}
@@ -8,7 +8,7 @@ use Rattle.zim_rows.specs.Program.{LinearProgram}
 use Rattle.zim_rows.specs.Named.{column_name}
 use Rattle.zim_table.specs.declared.names.Names.{Names}
 use Rattle.zim_table.specs.Reader.{Pair, Table}
-use Rattle.zim_table.specs.Text.{statement_name}
+use Rattle.zim_table.specs.Text.{statement_name, minimised_factor}
 
 -- A position of a statement whose name is a field.
 pub record IsStatement (names : Names) (position : ℕ) : Type 0 where
@@ -17,7 +17,7 @@ pub record IsStatement (names : Names) (position : ℕ) : Type 0 where
 
 -- There is one variable for each column; the rows' statements never fall; all names that are written are fields.
 pub record CanBeListed (program : LinearProgram) (variables : List (List ℕ)) (names : Names) : Type 0 where
-  pub one_each : length variables ≡ program.columns
+  pub one_each : length variables ≡ length program.columns
   pub variable_names : All IsField variables
   pub statements : All (λ (r : Row). IsStatement names r.from.statement) program.rows
   pub rising : IsNonDecreasingBy (λ (r : Row). r.from.statement) program.rows
@@ -27,11 +27,11 @@ pub record CanBeListed (program : LinearProgram) (variables : List (List ℕ)) (
 abbrev pub numbered_pair : ℕ × List ℕ → Pair
 numbered_pair variable = record { column = column_name variable.0; name = variable.1; tuple = [] }
 
--- Each column with the name of its variable, in order, and the factors, of which the MPS's is negative where the
--- program maximises.
+-- Each column with the name of its variable, in order, and the factors: that of the objective, and for the MPS its
+-- negative where the program maximises.
 abbrev pub table_said : LinearProgram → List (List ℕ) → Table
 table_said program variables = record {
   pairs = map numbered_pair (enumerate_from 1 variables);
-  lp_factor = pos 1;
-  mps_factor = if program.target.maximize then negsuc 0 else pos 1;
+  lp_factor = program.target.factor;
+  mps_factor = minimised_factor program.target.maximize program.target.factor;
 }

@@ -1,5 +1,5 @@
 //! The table beside the written files: which column of the files stands for which variable of the model, by which
-//! factors the objective was multiplied, and which statement each row comes from.
+//! factors the objective and each row were multiplied, and which statement each row comes from.
 //!
 //! `specs/Reader.antt` gives every text its table, if it is one; `specs/Text.antt` gives the text of a finished system
 //! with the names of its variables and statements. They share no definition. `specs/Correct.antt` says what table the

@@ -1,15 +1,18 @@
-ghost use Rattle.std.specs.Prelude.{◌≡◌, ℕ, ◌+◌, ◌^◌, ◌<◌, ◌==◌, if◌then◌else◌, Some, flat_map, length, option_map, All, IfSome, IsSome};
+ghost use Rattle.std.specs.Prelude.{◌≡◌, ℕ, pos, ◌≤ℤ◌, ◌+◌, ◌^◌, ◌<◌, ◌==◌, if◌then◌else◌, Some, flat_map, length, option_map, All, IfSome, IsSome};
 ghost use Rattle.std.specs.List.{enumerate_from};
 ghost use Rattle.std.specs.List.Sorted.{IsNonDecreasingBy};
 ghost use Rattle.zim_gate.specs.Folder.{Puts};
 ghost use Rattle.zim_gate.specs.Pen.{Writes};
 ghost use Rattle.zim_rows.specs.Finished.{program_of};
+ghost use Rattle.zim_rows.specs.Named as named;
 ghost use Rattle.zim_table.specs.Correct.{IsStatement, CanBeListed, table_said};
 ghost use Rattle.zim_table.specs.Reader.{table};
+ghost use Rattle.zim_table.specs.Text as text;
 ghost use Rattle.zim_table.specs.Text.{statement_of, statement_name, factor_text, aim_text, objective_text, variable_text, offset_text, row_line, row_text, table_text};
 
 use crate::names::Names;
 use zim_fault::Bytes;
+use zim_fraction::Fraction;
 use zim_gate::{Failed, Folder, Pen};
 use zim_rows::{Finished, Row};
 
@@ -20,7 +23,8 @@ pub type PutFault = Failed;
 /// variable.
 ///
 /// After `Failed` a prefix of the text was put. The text is the table of the columns with their variables' names, in
-/// order, and of the factors 1 and 1, or 1 and -1 where the system maximises.
+/// order, and of the factors that the objective has in the two files: its own in the LP file, and in the MPS file its
+/// own, or the negative of it where the system maximises.
 pub fn write<F: Folder>(
     system: &Finished,
     vars: &[Bytes],
@@ -33,14 +37,42 @@ pub fn write<F: Folder>(
     ensures says { table (table_text (program_of system.now) vars.now names.now) ≡ Some (table_said (program_of system.now) vars.now) }
 {
     let mut pen = Pen::new(folder);
-    pen.put(b"zimplc table 1\nfactor lp 1\n");
-    pen.put(text_of_factor(system.target.maximize));
+    let factor = system.target.factor;
+    let minimised = minimised_factor(system.target.maximize, factor);
+    pen.put(b"zimplc table 1\n");
+    put_factor(&mut pen, b"lp", factor);
+    put_factor(&mut pen, b"mps", minimised);
     put_objective(&mut pen, system.target.maximize, names);
     put_variables(&mut pen, vars);
-    pen.put(text_of_offset(system.columns));
+    pen.put(text_of_offset(has_offset(system)));
     put_rows(&mut pen, system.rows.as_slice(), names);
     pen.put(b"end\n");
     pen.finish()
+}
+
+/// The factor of the objective in a file that always minimises.
+fn minimised_factor(maximises: bool, factor: i128) -> i128
+    requires { pos 1 ≤ℤ factor }
+    ensures { result ≡ text.minimised_factor maximises factor }
+{
+    if maximises { -factor } else { factor }
+}
+
+/// Whether the files have the column `one`.
+fn has_offset(system: &Finished) -> bool
+    ensures { result ≡ named.has_offset (program_of system.now) }
+{
+    system.columns.is_empty() || !system.target.constant.same_number(&Fraction::zero())
+}
+
+fn put_factor<F: Folder>(pen: &mut Pen<F>, format: &[u8], factor: i128)
+    ensures { Writes F.state pen.old pen.new (factor_text format.now factor) }
+{
+    pen.put(b"factor ");
+    pen.put(format);
+    pen.put(b" ");
+    pen.put_number(factor);
+    pen.put(b"\n");
 }
 
 fn put_objective<F: Folder>(pen: &mut Pen<F>, maximises: bool, names: &Names)
@@ -92,7 +124,7 @@ fn put_rows<F: Folder>(pen: &mut Pen<F>, rows: &[Row], names: &Names)
     for (index, row) in rows.iter().enumerate() {
         place = next_place(statement, place, row.from.statement);
         statement = row.from.statement;
-        put_row(pen, index + 1, name_of(names, statement), place);
+        put_row(pen, index + 1, name_of(names, statement), place, row.factor);
     }
 }
 
@@ -104,8 +136,8 @@ fn next_place(last: u32, place: usize, statement: u32) -> usize
     if statement == last { place + 1 } else { 1 }
 }
 
-fn put_row<F: Folder>(pen: &mut Pen<F>, number: usize, name: &[u8], place: usize)
-    ensures { Writes F.state pen.old pen.new (row_line number name.now place) }
+fn put_row<F: Folder>(pen: &mut Pen<F>, number: usize, name: &[u8], place: usize, factor: i128)
+    ensures { Writes F.state pen.old pen.new (row_line number name.now place factor) }
 {
     pen.put(b"row r");
     pen.put_number(number);
@@ -113,7 +145,9 @@ fn put_row<F: Folder>(pen: &mut Pen<F>, number: usize, name: &[u8], place: usize
     pen.put(name);
     pen.put(b" ");
     pen.put_number(place);
-    pen.put(b" 1\n");
+    pen.put(b" ");
+    pen.put_number(factor);
+    pen.put(b"\n");
 }
 
 /// The name of a statement.
@@ -123,16 +157,6 @@ fn name_of(names: &Names, position: u32) -> &[u8]
 {
     let statements = names.statements.as_slice();
     statements[position as usize].as_slice()
-}
-
-fn text_of_factor(maximises: bool) -> &'static [u8]
-    ensures { result.now ≡ factor_text maximises }
-{
-    if maximises {
-        b"factor mps -1\n"
-    } else {
-        b"factor mps 1\n"
-    }
 }
 
 fn text_of_aim(maximises: bool) -> &'static [u8]
@@ -145,8 +169,8 @@ fn text_of_aim(maximises: bool) -> &'static [u8]
     }
 }
 
-fn text_of_offset(columns: u32) -> &'static [u8]
-    ensures { result.now ≡ offset_text columns }
+fn text_of_offset(stands: bool) -> &'static [u8]
+    ensures { result.now ≡ offset_text stands }
 {
-    if columns == 0 { b"offset one\n" } else { b"" }
+    if stands { b"offset one\n" } else { b"" }
 }

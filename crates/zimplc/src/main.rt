@@ -55,3 +55,5 @@ fn main(rt: HostRuntime) -> ExitCode {
 
 #[cfg(test)]
 mod tests;
+#[cfg(test)]
+mod texts;

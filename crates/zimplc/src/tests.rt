@@ -1,5 +1,6 @@
 //! Whole runs over a folder and sinks in memory, with what they leave there.
 
+use crate::texts::*;
 use std::alloc::Global;
 use std::test::Fail;
 use zim_cli::{Status, run};
@@ -60,145 +61,40 @@ fn outcome_in(alloc: Global, mut folder: MemoryFolder, words: &[&str]) -> Result
 /// The words of the usual run.
 const COMPILE: [&str; 3] = ["m.zpl", "--out", "m"];
 
-const TWO_VARIABLES_MODEL: &[u8] = b"var x; var y; minimize c: 2*x+3*y; subto a: x+y >= 1;";
-
-const TWO_VARIABLES: &[u8] = b"\\ zimplc
-Minimize
- obj: 2 x1 + 3 x2
-Subject To
- r1: 1 x1 + 1 x2 >= 1
-Bounds
- x1 >= 0
- x2 >= 0
-End
-";
-
-const TWO_VARIABLES_MPS: &[u8] = b"NAME zimplc
-ROWS
- N obj
- G r1
-COLUMNS
- x1 obj 2
- x1 r1 1
- x2 obj 3
- x2 r1 1
-RHS
- RHS r1 1
-BOUNDS
- LO BND x1 0
- PL BND x1
- LO BND x2 0
- PL BND x2
-ENDATA
-";
-
-const TWO_VARIABLES_TABLE: &[u8] = b"zimplc table 1
-factor lp 1
-factor mps 1
-objective minimize c
-column x1 x
-column x2 y
-row r1 a 1 1
-end
-";
-
-const MOST: &[u8] = b"\\ zimplc
-Maximize
- obj: 2 x1 - 3 x2
-Subject To
- r1: 1 x1 <= 4
-Bounds
- x1 >= 0
- x2 >= 0
-End
-";
-
-const MOST_MPS: &[u8] = b"NAME zimplc
-ROWS
- N obj
- L r1
-COLUMNS
- x1 obj -2
- x1 r1 1
- x2 obj 3
-RHS
- RHS r1 4
-BOUNDS
- LO BND x1 0
- PL BND x1
- LO BND x2 0
- PL BND x2
-ENDATA
-";
-
-const MOST_TABLE: &[u8] = b"zimplc table 1
-factor lp 1
-factor mps -1
-objective maximize p
-column x1 x
-column x2 y
-row r1 a 1 1
-end
-";
-
-const NO_VARIABLE: &[u8] = b"\\ zimplc
-Minimize
- obj: 0 one
-Subject To
-Bounds
- 1 <= one <= 1
-End
-";
-
-const NO_VARIABLE_MPS: &[u8] = b"NAME zimplc
-ROWS
- N obj
-COLUMNS
- one obj 0
-RHS
-BOUNDS
- LO BND one 1
- UP BND one 1
-ENDATA
-";
-
-const NO_VARIABLE_TABLE: &[u8] = b"zimplc table 1
-factor lp 1
-factor mps 1
-objective none
-offset one
-end
-";
-
 #[test]
-fn two_variables_and_a_constraint(rt: HostRuntime) -> Result<(), Fail> {
-    let ran = outcome_of(rt.alloc(), TWO_VARIABLES_MODEL, &COMPILE, ROOM)?;
-    assert!(rt; ran.status == Status::Done);
-    assert!(rt; ran.folder.bytes_of(b"m.lp") == Some(TWO_VARIABLES));
-    assert!(rt; ran.folder.bytes_of(b"m.mps") == Some(TWO_VARIABLES_MPS));
-    assert!(rt; ran.folder.bytes_of(b"m.tbl") == Some(TWO_VARIABLES_TABLE));
-    assert!(rt; ran.err.taken() == b"".as_slice());
-    Ok(())
-}
-
-#[test]
-fn an_objective_to_be_maximised(rt: HostRuntime) -> Result<(), Fail> {
-    let text = b"var x; var y; maximize p: 2*x-3*y; subto a: x <= 4;";
-    let ran = outcome_of(rt.alloc(), text, &COMPILE, ROOM)?;
-    assert!(rt; ran.status == Status::Done);
-    assert!(rt; ran.folder.bytes_of(b"m.lp") == Some(MOST));
-    assert!(rt; ran.folder.bytes_of(b"m.mps") == Some(MOST_MPS));
-    assert!(rt; ran.folder.bytes_of(b"m.tbl") == Some(MOST_TABLE));
-    Ok(())
-}
-
-#[test]
-fn an_empty_model(rt: HostRuntime) -> Result<(), Fail> {
-    let ran = outcome_of(rt.alloc(), b"", &COMPILE, ROOM)?;
-    assert!(rt; ran.status == Status::Done);
-    assert!(rt; ran.folder.bytes_of(b"m.lp") == Some(NO_VARIABLE));
-    assert!(rt; ran.folder.bytes_of(b"m.mps") == Some(NO_VARIABLE_MPS));
-    assert!(rt; ran.folder.bytes_of(b"m.tbl") == Some(NO_VARIABLE_TABLE));
+fn models_with_their_three_files(rt: HostRuntime) -> Result<(), Fail> {
+    for (model, lp, mps, table) in [
+        (
+            TWO_VARIABLES_MODEL,
+            TWO_VARIABLES_LP,
+            TWO_VARIABLES_MPS,
+            TWO_VARIABLES_TABLE,
+        ),
+        (MOST_MODEL, MOST_LP, MOST_MPS, MOST_TABLE),
+        (
+            NO_VARIABLE_MODEL,
+            NO_VARIABLE_LP,
+            NO_VARIABLE_MPS,
+            NO_VARIABLE_TABLE,
+        ),
+        (THIRDS_MODEL, THIRDS_LP, THIRDS_MPS, THIRDS_TABLE),
+        (OFFSET_MODEL, OFFSET_LP, OFFSET_MPS, OFFSET_TABLE),
+        (
+            ONLY_OFFSET_MODEL,
+            ONLY_OFFSET_LP,
+            ONLY_OFFSET_MPS,
+            ONLY_OFFSET_TABLE,
+        ),
+        (NO_TERM_MODEL, NO_TERM_LP, NO_TERM_MPS, NO_TERM_TABLE),
+        (REPEATED_MODEL, REPEATED_LP, REPEATED_MPS, REPEATED_TABLE),
+    ] {
+        let ran = outcome_of(rt.alloc(), model, &COMPILE, ROOM)?;
+        assert!(rt; ran.status == Status::Done);
+        assert!(rt; ran.folder.bytes_of(b"m.lp") == Some(lp));
+        assert!(rt; ran.folder.bytes_of(b"m.mps") == Some(mps));
+        assert!(rt; ran.folder.bytes_of(b"m.tbl") == Some(table));
+        assert!(rt; ran.err.taken() == b"".as_slice());
+    }
     Ok(())
 }
 
@@ -215,15 +111,22 @@ fn words_that_are_no_job(rt: HostRuntime) -> Result<(), Fail> {
 #[test]
 fn models_that_are_refused(rt: HostRuntime) -> Result<(), Fail> {
     for text in [
-        "var x; subto a: x+x >= 1;",
         "var x; subto a: y >= 1;",
         "var x; var x;",
-        "var x; minimize o: 0*x;",
-        "var x; minimize o: 1234567890123456789*x;",
+        "var x; subto a: x >= 1; subto a: x >= 2;",
+        "var x; minimize o: x; maximize p: x;",
         "var min;",
-        "var x; subto a: 1.5*x >= 1;",
-        "var x; subto a: x >= 1e2;",
+        "var x; subto a: 2 x >= 1;",
+        "var x; subto a: x/2 >= 1;",
+        "var x; subto a: 1/2/3*x >= 1;",
+        "var x; subto a: x - -1 >= 1;",
+        "var x; subto a: 1 <= x <= 2;",
+        "var x; subto a: x >= 1/0;",
+        "var x; subto a: x >= 1e39/0.0e5;",
+        "var x; subto a: y >= 1e39;",
         "var x; subto a: x >= '1';",
+        "var x >= 1;",
+        "include \"v.zpl\";",
     ] {
         let ran = outcome_of(rt.alloc(), text.as_bytes(), &COMPILE, ROOM)?;
         assert!(rt; ran.status == Status::Refused);
@@ -236,25 +139,102 @@ fn models_that_are_refused(rt: HostRuntime) -> Result<(), Fail> {
 #[test]
 fn faults_with_their_lines(rt: HostRuntime) -> Result<(), Fail> {
     for (text, line) in [
-        ("var x;\nsubto a b;", b"m.zpl:2: 5 Syntax\n".as_slice()),
+        ("param p := 1 $;", "m.zpl:1: 1 BadByte\n"),
+        ("param p := \"a;", "m.zpl:1: 2 OpenString\n"),
+        ("param p := 1", "m.zpl:1: 6 OpenStatement\n"),
+        ("subto a b\n\n&", "m.zpl:3: 1 BadByte\n"),
+        ("var x;\n'\n&", "m.zpl:2: 2 OpenString\n"),
+        ("var x;\nsubto a: x = 1;", "m.zpl:2: 1 BadByte\n"),
+        ("var x;\nsubto a: x >= 1", "m.zpl:2: 6 OpenStatement\n"),
+        ("subto a b;\nvar x", "m.zpl:2: 6 OpenStatement\n"),
+        ("var x;\nsubto a b;", "m.zpl:2: 5 Syntax\n"),
+        ("var x;\nsubto\na: x >= 1\n/ 0;", "m.zpl:2: 5 Syntax\n"),
+        // a statement that no rule reads comes before what is wrong with one that is read
         (
-            "var x;\nsubto a: x >= 1",
-            b"m.zpl:2: 6 OpenStatement\n".as_slice(),
+            "var x;\nsubto a: x <= 1e39;\nsubto b c;",
+            "m.zpl:3: 5 Syntax\n",
         ),
-        (
-            "subto a b;\nvar x",
-            b"m.zpl:2: 6 OpenStatement\n".as_slice(),
-        ),
-        ("param p := 1 $;", b"m.zpl:1: 1 BadByte\n".as_slice()),
-        ("param p := \"a;", b"m.zpl:1: 2 OpenString\n".as_slice()),
-        ("param p := 1", b"m.zpl:1: 6 OpenStatement\n".as_slice()),
-        ("subto a b\n\n&", b"m.zpl:3: 1 BadByte\n".as_slice()),
-        ("var x;\n'\n&", b"m.zpl:2: 2 OpenString\n".as_slice()),
+        ("subto a: y <= 1;\nsubto b c;", "m.zpl:2: 5 Syntax\n"),
     ] {
         let ran = outcome_of(rt.alloc(), text.as_bytes(), &COMPILE, ROOM)?;
         assert!(rt; ran.status == Status::Refused);
-        assert!(rt; ran.err.taken() == line);
+        assert!(rt; ran.err.taken() == line.as_bytes());
         assert!(rt; ran.folder.bytes_of(b"m.tbl") == None);
+    }
+    Ok(())
+}
+
+#[test]
+fn numbers_past_the_limit_with_their_lines(rt: HostRuntime) -> Result<(), Fail> {
+    for (text, line) in [
+        // a number, its divisor, and their quotient at the slash
+        ("var x;\nsubto a:\n2*x\n<=\n1e39\n;", "m.zpl:5: 31 Past\n"),
+        ("var x;\nsubto a: x <=\n1\n/\n1e39\n;", "m.zpl:5: 31 Past\n"),
+        (
+            "var x;\nsubto a: x >=\n1e38\n/\n1e-38\n;",
+            "m.zpl:4: 31 Past\n",
+        ),
+        // a sum of numbers, or of the coefficients of one name, at the operator
+        (
+            "var x;\nsubto a: x <=\n170141183460469231731687303715884105727\n+\n1\n;",
+            "m.zpl:4: 31 Past\n",
+        ),
+        (
+            "var x;\nminimize o: 170141183460469231731687303715884105727*x\n+\nx\n;",
+            "m.zpl:3: 31 Past\n",
+        ),
+        // numbers alone are added up as they come, and names when all numbers are read
+        (
+            "var x;\nsubto a: x <= 170141183460469231731687303715884105727\n+ 1\n+ 1e39;",
+            "m.zpl:3: 31 Past\n",
+        ),
+        (
+            "var x;\nminimize o: 170141183460469231731687303715884105727*x\n+ x\n+ 1e39*x;",
+            "m.zpl:4: 31 Past\n",
+        ),
+        // the difference of both sides, at the relation
+        (
+            "var x;\nsubto a: x + 1e38\n<=\n-1e38\n;",
+            "m.zpl:3: 31 Past\n",
+        ),
+        // a row times its factor, at its relation; the objective, at its name
+        ("var x;\nsubto a: 1/3*x\n<=\n1e38\n;", "m.zpl:3: 31 Past\n"),
+        ("var x;\nminimize\no\n: 1/3*x + 1e38;", "m.zpl:3: 31 Past\n"),
+        (
+            "var x;\nvar y;\nsubto a: 1/99999999999999999999*x\n+ 1/99999999999999999997*y\n>= 0;",
+            "m.zpl:5: 31 Past\n",
+        ),
+        // what has to do with factors comes last, the rows before the objective
+        (
+            "var x;\nsubto a: 1/3*x\n<= 1e38;\nsubto b: x <= 1e39;",
+            "m.zpl:4: 31 Past\n",
+        ),
+        (
+            "var x;\nminimize o: 1/3*x + 1e38;\nsubto a: 1/3*x\n>= 1e38;",
+            "m.zpl:4: 31 Past\n",
+        ),
+        // a statement's fault comes before those of later statements
+        ("var x;\nsubto a: x <= 1e39;\nvar x;", "m.zpl:2: 31 Past\n"),
+    ] {
+        let ran = outcome_of(rt.alloc(), text.as_bytes(), &COMPILE, ROOM)?;
+        assert!(rt; ran.status == Status::Refused);
+        assert!(rt; ran.err.taken() == line.as_bytes());
+        assert!(rt; ran.folder.bytes_of(b"m.tbl") == None);
+    }
+    Ok(())
+}
+
+#[test]
+fn numbers_at_the_limit(rt: HostRuntime) -> Result<(), Fail> {
+    for text in [
+        "var x; subto a: x <= 170141183460469231731687303715884105726 + 1;",
+        "var x; subto a: x <= 10e37;",
+        "var x; subto a: 1e-38*x <= 1e-38;",
+        "var x; subto a: 1/3*x <= 5e37;",
+        "var x; subto a: x <= 0e999999999999;",
+    ] {
+        let ran = outcome_of(rt.alloc(), text.as_bytes(), &COMPILE, ROOM)?;
+        assert!(rt; ran.status == Status::Done);
     }
     Ok(())
 }
@@ -272,6 +252,19 @@ fn a_model_at_the_limit_and_one_past_it(rt: HostRuntime) -> Result<(), Fail> {
 }
 
 #[test]
+fn files_at_the_limit_together_and_one_byte_past_it(rt: HostRuntime) -> Result<(), Fail> {
+    let model = b"include \"v.zpl\"".as_slice();
+    let mut text = vec![in rt.alloc(); b'#'; 67_108_849]?;
+    let most = outcome_with(rt.alloc(), model, text.as_slice())?;
+    assert!(rt; most.status == Status::Done);
+    text.push(b'\n')?;
+    let more = outcome_with(rt.alloc(), model, text.as_slice())?;
+    assert!(rt; more.status == Status::Refused);
+    assert!(rt; more.err.taken() == b"v.zpl:1: 26 LongFile\n".as_slice());
+    Ok(())
+}
+
+#[test]
 fn a_model_that_is_missing(rt: HostRuntime) -> Result<(), Fail> {
     let ran = outcome_of(rt.alloc(), b"", &["no.zpl", "--out", "m"], ROOM)?;
     assert!(rt; ran.status == Status::ReadFault);
@@ -283,34 +276,55 @@ fn a_model_that_is_missing(rt: HostRuntime) -> Result<(), Fail> {
 fn an_include_line_is_replaced(rt: HostRuntime) -> Result<(), Fail> {
     let ran = outcome_with(rt.alloc(), b"include \"v.zpl\"", TWO_VARIABLES_MODEL)?;
     assert!(rt; ran.status == Status::Done);
-    assert!(rt; ran.folder.bytes_of(b"m.lp") == Some(TWO_VARIABLES));
+    assert!(rt; ran.folder.bytes_of(b"m.lp") == Some(TWO_VARIABLES_LP));
     assert!(rt; ran.folder.bytes_of(b"m.mps") == Some(TWO_VARIABLES_MPS));
     assert!(rt; ran.folder.bytes_of(b"m.tbl") == Some(TWO_VARIABLES_TABLE));
     Ok(())
 }
 
 #[test]
-fn a_fault_of_an_included_file(rt: HostRuntime) -> Result<(), Fail> {
+fn faults_of_models_in_two_files(rt: HostRuntime) -> Result<(), Fail> {
     for (model, included, line) in [
+        ("include \"m.zpl\"\n", "", "m.zpl:1: 3 IncludeDeep\n"),
         (
-            b"include \"m.zpl\"\n".as_slice(),
-            b"".as_slice(),
-            b"m.zpl:1: 3 IncludeDeep\n".as_slice(),
+            "\ninclude \"v.zpl\"",
+            "\n\ninclude \"m.zpl\"",
+            "v.zpl:3: 3 IncludeDeep\n",
         ),
         (
-            b"var x;\ninclude \"v.zpl\"\nvar y;".as_slice(),
-            b"\nvar x;".as_slice(),
-            b"v.zpl:2: 5 Syntax\n".as_slice(),
+            "var x;\ninclude \"v.zpl\"\nvar y;",
+            "\nvar x;",
+            "v.zpl:2: 5 Syntax\n",
         ),
         (
-            b"include \"v.zpl\"\nvar x".as_slice(),
-            b"var y;".as_slice(),
-            b"m.zpl:2: 6 OpenStatement\n".as_slice(),
+            "include \"v.zpl\"\nvar x",
+            "var y;",
+            "m.zpl:2: 6 OpenStatement\n",
+        ),
+        (
+            "var x;\ninclude \"v.zpl\"\nsubto a: x <= 1e39;",
+            "var y;\n\n\n",
+            "m.zpl:3: 31 Past\n",
+        ),
+        (
+            "var x;\nsubto a: x <=\ninclude \"v.zpl\"\n;",
+            "\n1e39\n",
+            "v.zpl:2: 31 Past\n",
+        ),
+        (
+            "var x;\ninclude \"v.zpl\"\nsubto b: x >= 1;",
+            "subto a: 1/3*x\n<= 1e38;",
+            "v.zpl:2: 31 Past\n",
+        ),
+        (
+            "include \"v.zpl\"\ninclude \"v.zpl\"",
+            "var x;",
+            "v.zpl:1: 5 Syntax\n",
         ),
     ] {
-        let ran = outcome_with(rt.alloc(), model, included)?;
+        let ran = outcome_with(rt.alloc(), model.as_bytes(), included.as_bytes())?;
         assert!(rt; ran.status == Status::Refused);
-        assert!(rt; ran.err.taken() == line);
+        assert!(rt; ran.err.taken() == line.as_bytes());
         assert!(rt; ran.folder.bytes_of(b"m.tbl") == None);
     }
     Ok(())

@@ -5,7 +5,7 @@ use Rattle.zim_answer.specs.Gives.{Gives}
 use Rattle.zim_lex.specs.declared.lines.Span.{Span}
 use Rattle.zim_lex.specs.Causes.{lex_cause}
 use Rattle.zim_lex.specs.Statements.{statements_of}
-use Rattle.zim_cli.specs.PlainSystem.{ParseAnswer}
+use Rattle.zim_plain.specs.Answers.{ParseAnswer}
 use Rattle.zim_cli.proofs.SpanLemmas.{spans_within}
 use Rattle.zim_cli.proofs.CompileLemmas.{lexed_stuck, cut_open, lines_broken}
 use Rattle.zim_cli.proofs.compiling.system_of_lines.Goals as goal
@@ -26,9 +26,9 @@ parse-requires c =
     let cut : statements_of c.in-Ok.tokens.items ≡ Ok c.in-Ok-statements.spans.items = ap statements_of (sym c.as_slice.ensures.value) ∙ c.in-Ok-statements.ensures in
     rw (c.as_slice-3.ensures.value, c.as_slice-2.ensures.value) (spans_within c.in-Ok.tokens.items c.in-Ok-statements.spans.items cut)
 
-pub returns-in-Err-Broken : goal.returns-in-Err-Broken
-returns-in-Err-Broken c =
+pub returns-in-Err-Fault-parse : goal.returns-in-Err-Fault-parse
+returns-in-Err-Fault-parse c =
     let cut : statements_of c.in-Ok.tokens.items ≡ Ok c.in-Ok-statements.spans.items = ap statements_of (sym c.as_slice.ensures.value) ∙ c.in-Ok-statements.ensures in
     let first = subst (λ (ts : List Placed). ParseAnswer ts c.as_slice-3.result.now c.parse.result) c.as_slice-2.ensures.value c.parse.ensures in
-    lines_broken c.args.lines.now c.in-Ok.tokens.items c.in-Ok-statements.spans.items c.parse.result c.in-Err-Broken.field-0 c.in-Err-Broken.place c.in-Ok.ensures.tokens cut c.in-Err-Broken.is c.in-Err-Broken.field-0-is
+    lines_broken c.args.lines.now c.in-Ok.tokens.items c.in-Ok-statements.spans.items c.parse.result c.in-Err-Fault-parse.field-0 c.in-Err-Fault-parse.fault c.in-Ok.ensures.tokens cut c.in-Err-Fault-parse.is c.in-Err-Fault-parse.field-0-is
     (subst (λ (ss : List Span). ParseAnswer c.in-Ok.tokens.items ss c.parse.result) c.as_slice-3.ensures.value first)

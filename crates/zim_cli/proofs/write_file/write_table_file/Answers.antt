@@ -1,26 +1,23 @@
 -- Each stop leaves what was put so far.
-use Rattle.std.proofs.Common.{ℕ, List, sym, subst}
-use Rattle.zim_gate.specs.Folder.{Puts}
-use Rattle.zim_rows.specs.Finished.{program_of}
-use Rattle.zim_table.specs.Text.{table_text}
+use Rattle.std.proofs.Common.{sym}
 use Rattle.zim_cli.proofs.WriteFileLemmas.{begin_failed, put_failed, end_failed, file_written}
 use Rattle.zim_cli.proofs.write_file.write_table_file.Goals as goal
 
 pub returns-then-is_err : goal.returns-then-is_err
 returns-then-is_err g c =
     put_failed _ _ _ _ _ c.begin.result c.write.result c.in-Ok.is (sym c.if-is_err.ensures.value) c.begin.ensures
-    (subst (λ (vs : List (List ℕ)). Puts (g.F.Folder.state c.begin.new.self) (g.F.Folder.state c.write.new.folder) (table_text (program_of c.args.read.now.system) vs c.args.read.now.names) c.write.result) c.as_slice.ensures c.write.ensures.text)
+    c.write.ensures.text
 
 pub returns-in-Ok-end : goal.returns-in-Ok-end
 returns-in-Ok-end g c =
     file_written _ _ _ _ _ _ c.begin.result c.write.result c.end.result c.in-Ok.is (sym c.if-is_err.ensures.value) c.begin.ensures
-    (subst (λ (vs : List (List ℕ)). Puts (g.F.Folder.state c.begin.new.self) (g.F.Folder.state c.write.new.folder) (table_text (program_of c.args.read.now.system) vs c.args.read.now.names) c.write.result) c.as_slice.ensures c.write.ensures.text)
+    c.write.ensures.text
     c.end.ensures
 
 pub returns-in-Err-end : goal.returns-in-Err-end
 returns-in-Err-end g c =
     end_failed _ _ _ _ _ _ c.begin.result c.write.result c.end.result c.in-Err-end.field-0 c.in-Ok.is (sym c.if-is_err.ensures.value) c.in-Err-end.is c.begin.ensures
-    (subst (λ (vs : List (List ℕ)). Puts (g.F.Folder.state c.begin.new.self) (g.F.Folder.state c.write.new.folder) (table_text (program_of c.args.read.now.system) vs c.args.read.now.names) c.write.result) c.as_slice.ensures c.write.ensures.text)
+    c.write.ensures.text
     c.end.ensures
 
 pub returns-in-Err : goal.returns-in-Err

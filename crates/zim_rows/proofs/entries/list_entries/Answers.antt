@@ -2,10 +2,14 @@
 use Rattle.std.proofs.Common.{◌≡◌, ◌+◌, ◌<◌, ◌++◌, take, vec_len, ◌∙◌, ap, sym, arith, List}
 use Rattle.std.proofs.lemmas.List.{take_all}
 use Rattle.zim_rows.specs.declared.rows.Row.{Row}
-use Rattle.zim_rows.specs.Terms.{Term}
+use Rattle.zim_linear.specs.Forms.{Term}
 use Rattle.zim_rows.specs.Entries.{entries_of_row, entries_of_column}
-use Rattle.zim_rows.proofs.EntryLemmas.{entries_of_column_more, entries_by_column_all}
+use Rattle.zim_rows.proofs.EntryLemmas.{entries_of_column_more, entries_by_column_all, row_is_over}
 use Rattle.zim_rows.proofs.entries.list_entries.Goals as goal
+
+pub add_row_entries-requires : goal.add_row_entries-requires
+add_row_entries-requires c =
+    row_is_over _ _ _ _ _ _ c.requires.rows c.loop-i-test.true c.index-rows-i.is c.as_slice.ensures c.loop-i.invariant.len
 
 pub loop-i-preserved : goal.loop-i-preserved
 loop-i-preserved c = record {

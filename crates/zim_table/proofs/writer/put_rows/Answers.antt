@@ -1,5 +1,7 @@
 -- One row more.
-use Rattle.std.proofs.Common.{◌≡◌, ℕ, ◌+◌, ◌≤◌, List, ◌++◌, take, get_or, sym, subst, ap, ◌∙◌, arith}
+use Rattle.std.proofs.Common.{◌≡◌, ℕ, ◌+◌, ◌≤◌, List, ◌++◌, take, get_or, sym, subst, ap, ◌∙◌, arith, to_z, of_z}
+use Rattle.std.proofs.Math.Facts.{to_z-of_z}
+use Rattle.std.specs.Int.{w128}
 use Rattle.std.specs.Prelude.{◌==◌, if◌then◌else◌, flat_map}
 use Rattle.std.specs.List.{enumerate_from}
 use Rattle.std.proofs.lemmas.List.{get_or_default}
@@ -33,14 +35,15 @@ loop-index-preserved g c =
     (λ (s : ℕ). (if s == c.loop-index.statement then c.loop-index.place + 1 else 1) ≡ count_of rows (index + 1) s)
     (at row)
     (place_next rows index row c.loop-index.statement c.loop-index.place c.loop-index-test.true known.counted known.before (known.later index row (omega arith) c.loop-index-test.true)) in
+    let back : to_z w128 (of_z w128 row.factor) ≡ row.factor = to_z-of_z {w = w128} search in
     let here : Writes g.F.Folder.state c.loop-index.pen c.put_row.new.pen (row_text c.args.names.now rows (index + 1, row)) =
     subst
-    (λ (place : ℕ). Writes g.F.Folder.state c.loop-index.pen c.put_row.new.pen (row_line (index + 1) (statement_name c.args.names.now statement) place))
+    (λ (place : ℕ). Writes g.F.Folder.state c.loop-index.pen c.put_row.new.pen (row_line (index + 1) (statement_name c.args.names.now statement) place row.factor))
     placed
     (subst
-    (λ (name : List ℕ). Writes g.F.Folder.state c.loop-index.pen c.put_row.new.pen (row_line (index + 1) name c.next_place-place.result))
+    (λ (name : List ℕ). Writes g.F.Folder.state c.loop-index.pen c.put_row.new.pen (row_line (index + 1) name c.next_place-place.result row.factor))
     c.name_of.ensures
-    c.put_row.ensures) in
+    (simp back at c.put_row.ensures)) in
     record {
       put =
           subst

@@ -1,5 +1,7 @@
 -- The pieces of the file, and the law of its text.
-use Rattle.std.proofs.Common.{rules}
+use Rattle.std.proofs.Common.{◌≡◌, rules, to_z, of_z}
+use Rattle.std.proofs.Math.Facts.{to_z-of_z}
+use Rattle.std.specs.Int.{w128}
 use Rattle.zim_rows.specs.Finished.{program_of}
 use Rattle.zim_gate.proofs.PenLaws.{◌▸◌, finished}
 use Rattle.zim_table.proofs.TextSays.{text_says}
@@ -7,10 +9,13 @@ use Rattle.zim_table.proofs.writer.write.Goals as goal
 
 pub returns-clause-text : goal.returns-clause-text
 returns-clause-text g c =
-    let pieces =
+    let lp : to_z w128 (of_z w128 c.args.system.now.target.factor) ≡ c.args.system.now.target.factor = to_z-of_z {w = w128} search in
+    let mps : to_z w128 (of_z w128 c.minimised_factor-minimised.result) ≡ c.minimised_factor-minimised.result = to_z-of_z {w = w128} search in
+    let put =
     simp
-    (c.text_of_factor.ensures, c.text_of_offset.ensures, c.as_slice.ensures)
-    at (c.put.ensures ▸ c.put-2.ensures ▸ c.put_objective.ensures ▸ c.put_variables.ensures ▸ c.put-3.ensures ▸ c.put_rows.ensures ▸ c.put-4.ensures) in
+    (lp, mps)
+    at (c.put.ensures ▸ c.put_factor.ensures ▸ c.put_factor-2.ensures ▸ c.put_objective.ensures ▸ c.put_variables.ensures ▸ c.put-2.ensures ▸ c.put_rows.ensures ▸ c.put-3.ensures) in
+    let pieces = simp (lp, c.minimised_factor-minimised.ensures, c.has_offset.ensures, c.text_of_offset.ensures, c.as_slice.ensures) at put in
     finished c.new-pen.ensures pieces c.finish.ensures.outcome (search rules)
 
 pub returns-clause-says : goal.returns-clause-says

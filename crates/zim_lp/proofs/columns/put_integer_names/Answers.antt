@@ -1,0 +1,16 @@
+-- One more.
+use Rattle.std.proofs.Common.{ℕ, List, subst}
+use Rattle.zim_gate.specs.Pen.{Writes}
+use Rattle.zim_gate.proofs.PenLaws.{◌▸◌, Writes-nothing}
+use Rattle.zim_lp.proofs.Pieces.{integer_text, numbered_step}
+use Rattle.zim_lp.proofs.columns.put_integer_names.Goals as goal
+
+pub loop-index-init : goal.loop-index-init
+loop-index-init g c = Writes-nothing c.args.pen.now
+
+pub loop-index-preserved : goal.loop-index-preserved
+loop-index-preserved g c =
+    subst
+    (λ (t : List ℕ). Writes g.F.Folder.state c.args.pen.now c.put_name_of_integer.new.pen t)
+    (numbered_step integer_text 1 c.args.columns.now c.loop-index.index c.index-columns-index.result c.loop-index-test.true c.index-columns-index.is)
+    (c.loop-index.invariant ▸ c.put_name_of_integer.ensures)

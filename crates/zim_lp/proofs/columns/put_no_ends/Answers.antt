@@ -1,0 +1,6 @@
+-- The pieces of a bound.
+use Rattle.zim_gate.proofs.PenLaws.{◌▸◌}
+use Rattle.zim_lp.proofs.columns.put_no_ends.Goals as goal
+
+pub returns : goal.returns
+returns g c = c.put.ensures ▸ c.put_column_name.ensures ▸ c.put-2.ensures

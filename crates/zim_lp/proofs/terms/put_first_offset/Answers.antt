@@ -1,0 +1,6 @@
+-- The constant and the name of `one`.
+use Rattle.zim_gate.proofs.PenLaws.{◌▸◌}
+use Rattle.zim_lp.proofs.terms.put_first_offset.Goals as goal
+
+pub returns-clause-text : goal.returns-clause-text
+returns-clause-text g c = c.put_number.ensures.text ▸ c.put.ensures

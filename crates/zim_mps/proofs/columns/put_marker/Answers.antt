@@ -1,0 +1,15 @@
+-- The line of a change, or none.
+use Rattle.zim_gate.proofs.PenLaws.{Writes-nothing}
+use Rattle.zim_mps.proofs.columns.put_marker.Goals as goal
+
+pub returns-in-false-true : goal.returns-in-false-true
+returns-in-false-true g c = rw (c.in-false-true.is-0, c.in-false-true.is-1) c.put-in-false-true.ensures
+
+pub returns-in-true-false : goal.returns-in-true-false
+returns-in-true-false g c = rw (c.in-true-false.is-0, c.in-true-false.is-1) c.put.ensures
+
+pub returns-in-false-false : goal.returns-in-false-false
+returns-in-false-false g c = rw (c.in-false-false.is-0, c.in-false-false.is-1) (Writes-nothing c.args.pen.now)
+
+pub returns-in-true-true : goal.returns-in-true-true
+returns-in-true-true g c = rw (c.in-true-true.is-0, c.in-true-true.is-1) (Writes-nothing c.args.pen.now)

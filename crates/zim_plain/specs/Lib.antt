@@ -1,0 +1,12 @@
+pub mod Many
+pub mod Statements
+pub mod Segments
+pub mod Reader
+pub mod Meaning
+pub mod Suits
+pub mod Faults
+pub mod Systems
+pub mod Parts
+pub mod Sides
+pub mod Build
+pub mod Answers

@@ -1,0 +1,82 @@
+-- The system of a model: a column for each variable, a row for each `subto` and the objective, with exact numbers.
+use Rattle.std.specs.Prelude.{◌≡◌, ℕ, suc, ◌+◌, nat_eq, false, Bool, if◌then◌else◌, List, [], ◌∷◌, map, length, Option, Some, None, option_map, unwrap_or}
+use Rattle.std.specs.Cmp.Lexicographic.{pointwise}
+use Rattle.zim_fault.specs.declared.faults.Place.{Place}
+use Rattle.zim_rational.specs.Rational.{Rational, zero, minus, negate}
+use Rattle.zim_linear.specs.Forms.{Assignment, LinearForm, AreTerms, AreColumns, number_at}
+use Rattle.zim_rows.specs.declared.rows.Column.{Column}
+use Rattle.zim_rows.specs.declared.rows.GivenRow.{GivenRow}
+use Rattle.zim_rows.specs.declared.rows.Objective as rows
+use Rattle.zim_rows.specs.declared.rows.RowKind.TheVariants.{One}
+use Rattle.zim_rows.specs.declared.rows.Sense.{Sense}
+use Rattle.zim_rows.specs.System.{LinearSystem, column_of}
+use Rattle.zim_plain.specs.Statements.{Text, Sum, Variable, Objective, Constraint, Model, variables}
+use Rattle.zim_plain.specs.Meaning.{sum_number}
+
+-- The place of a name among names, from 0.
+abbrev pub place_of : List Text → Text → Option ℕ
+place_of [] name = None
+place_of (first ∷ names) name = if pointwise nat_eq name first then Some 0 else option_map suc (place_of names name)
+
+-- The number of a name's column, from 1; 0 for a name that no column has.
+abbrev pub column_of_name : List Text → Text → ℕ
+column_of_name names name = unwrap_or (option_map suc (place_of names name)) 0
+
+-- What each name is where the columns are these numbers.
+abbrev pub by_column : List Text → Assignment → Text → Rational
+by_column names x name = x (column_of_name names name)
+
+-- A form over the columns of names, that has this number at every assignment of the columns.
+pub record IsForm (names : List Text) (number : (Text → Rational) → Rational) (form : LinearForm) : Type 0 where
+  pub is : (x : Assignment) → number_at x form ≡ number (by_column names x)
+  pub terms : AreTerms form.terms
+  pub columns : AreColumns (length names) form.terms
+
+-- A row of the statement at a position: the terms of the left side less the right one, the relation, and the other constant.
+pub record IsRowOf (names : List Text) (position : ℕ) (left : Sum) (sense : Sense) (at : Place) (right : Sum) (row : GivenRow) : Type 0 where
+  pub statement : row.from.statement ≡ position
+  pub place : row.from.place ≡ at
+  pub form : LinearForm
+  pub form_is : IsForm names (λ x. minus (sum_number x left) (sum_number x right)) form
+  pub terms : row.terms ≡ form.terms
+  pub kind : row.kind ≡ One sense (negate form.constant)
+
+-- One row for each `subto` of some statements, in their order; the first of the statements has this position.
+abbrev pub AreRowsOf : List Text → ℕ → Model → List GivenRow → Type 0
+AreRowsOf names position [] rows = rows ≡ []
+AreRowsOf names position (Variable head end ∷ rest) rows = AreRowsOf names (position + 1) rest rows
+AreRowsOf names position (Objective maximize head colon sum end ∷ rest) rows = AreRowsOf names (position + 1) rest rows
+AreRowsOf names position (Constraint head colon left sense at right end ∷ rest) [] = ⊥
+AreRowsOf names position (Constraint head colon left sense at right end ∷ rest) (row ∷ rows) =
+    IsRowOf names position left sense at right row × AreRowsOf names (position + 1) rest rows
+
+-- The position of the first objective among statements, of which the first has this position.
+abbrev pub objective_position : ℕ → Model → Option ℕ
+objective_position position [] = None
+objective_position position (Variable head end ∷ rest) = objective_position (position + 1) rest
+objective_position position (Objective maximize head colon sum end ∷ rest) = Some position
+objective_position position (Constraint head colon left sense at right end ∷ rest) = objective_position (position + 1) rest
+
+-- An objective with this aim, at the name of its statement, whose form has the number of the list.
+pub record IsObjectiveOf (names : List Text) (maximize : Bool) (place : Place) (sum : Sum) (objective : rows.Objective) : Type 0 where
+  pub aim : objective.maximize ≡ maximize
+  pub place_is : objective.place ≡ place
+  pub form_is : IsForm names (λ x. sum_number x sum) objective.form
+
+-- The first objective among statements; without one there is none.
+abbrev pub HasObjectiveOf : List Text → Model → Option rows.Objective → Type 0
+HasObjectiveOf names [] objective = objective ≡ None
+HasObjectiveOf names (Variable head end ∷ rest) objective = HasObjectiveOf names rest objective
+HasObjectiveOf names (Objective maximize head colon sum end ∷ rest) None = ⊥
+HasObjectiveOf names (Objective maximize head colon sum end ∷ rest) (Some objective) = IsObjectiveOf names maximize head.at sum objective
+HasObjectiveOf names (Constraint head colon left sense at right end ∷ rest) objective = HasObjectiveOf names rest objective
+
+-- A real column from 0 up.
+abbrev pub nonnegative : Column
+nonnegative = column_of false (record { low = Some zero; high = None })
+
+-- The system of a model: a real column from 0 up for each variable in order, a row for each `subto` in order, and the objective.
+pub record IsSystemOf (model : Model) (system : LinearSystem) : Type 0 where
+  pub columns : system.columns ≡ map (λ (_ : Text). nonnegative) (variables model)
+  pub rows : AreRowsOf (variables model) 0 model system.rows
+  pub objective : HasObjectiveOf (variables model) model system.objective
