@@ -1,0 +1,12 @@
+pub mod SpellingLemmas
+pub mod SpellerLaws
+pub mod OperatorLemmas
+pub mod DerivationSpelling
+pub mod StatementDerivationSpelling
+pub mod ReplacedLemmas
+pub mod ReplacedDerivations
+pub mod ReplacedStatements
+pub mod PlacedAnew
+pub mod FirstToken
+pub mod StatementPlacedAnew
+pub mod NodeLemmas

@@ -1,0 +1,11 @@
+pub mod Trees
+pub mod Spelling
+pub mod Speller
+pub mod StatementSpelling
+pub mod Classes
+pub mod Levels
+pub mod Grammar
+pub mod StatementGrammar
+pub mod Plain
+pub mod PlainStatement
+pub mod FirstPlace

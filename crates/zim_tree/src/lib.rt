@@ -1,0 +1,18 @@
+//! The syntax trees of the language, how each is spelled, and the grammar that says which trees a list
+//! of tokens can mean.
+#![tactic(auto)]
+
+mod classes;
+mod copy;
+mod copy_stmt;
+mod expr;
+mod first_place;
+mod spell;
+mod spell_stmt;
+mod speller;
+mod stmt;
+
+pub use classes::{Class, class_of};
+pub use expr::{Angle, Body, Expr, Index};
+pub use spell_stmt::spelled;
+pub use stmt::{Bracket, Doing, Limit, ParSide, Printed, Reading, SetSide, Shape, Stmt, Table};
