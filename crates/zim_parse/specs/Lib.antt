@@ -1,0 +1,13 @@
+pub mod Next
+pub mod Parser
+pub mod Law
+pub mod StatementParser
+pub mod StatementLaw
+pub mod Outcome
+pub mod Turns
+pub mod Steps
+pub mod StatementSteps
+pub mod Scan
+pub mod AnswerLaw
+pub mod SpellingLaw
+pub mod GroupingLaw

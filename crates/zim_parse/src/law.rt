@@ -1,0 +1,63 @@
+ghost use Rattle.zim_parse.specs.AnswerLaw.{AcceptedAsOne, AcceptedIsNotRefused, FaultIsAtToken, RefusedWithOne};
+ghost use Rattle.zim_parse.specs.GroupingLaw.{OperandsAreNoSums, SubtractionGroupsLeft};
+ghost use Rattle.zim_parse.specs.Law.{OneTree, ParserReads};
+ghost use Rattle.zim_parse.specs.SpellingLaw.{MeansWhatIsSpelled, PlacesAreOfTokens, ReadIsSpelled, SpelledIsRead};
+ghost use Rattle.zim_parse.specs.StatementLaw.{OneStatement, ParserReadsStatements};
+
+/// Nothing to run: the contract is the law that a list of tokens spells at most one expression, but for
+/// its places.
+pub fn expressions_are_unique()
+    ensures { OneTree }
+{}
+
+/// Nothing to run: the contract is the law that the parser reads a list of tokens as an expression
+/// exactly where the grammar does.
+pub fn parser_reads_expressions()
+    ensures { ParserReads }
+{}
+
+/// Nothing to run: the contract is the law that a list of tokens spells at most one statement, but for
+/// its places.
+pub fn statements_are_unique()
+    ensures { OneStatement }
+{}
+
+/// Nothing to run: the contract is the law that the parser reads a list of tokens as a statement exactly
+/// where the grammar does.
+pub fn parser_reads_statements()
+    ensures { ParserReadsStatements }
+{}
+
+/// Nothing to run: the contract is the law that each place in a statement is that of one of its tokens.
+pub fn places_are_of_tokens()
+    ensures { PlacesAreOfTokens }
+{}
+
+/// Nothing to run: the contract is the law that the tokens of a derivation are the spelling of its
+/// statement, and that tokens that spell a tight statement have a derivation.
+pub fn read_is_spelled()
+    ensures spelled { ReadIsSpelled }
+    ensures read { SpelledIsRead }
+{}
+
+/// Nothing to run: the contract is the law that the answers mean what the tokens spell: a tight
+/// statement, or none.
+pub fn answers_mean_what_is_spelled()
+    ensures { MeansWhatIsSpelled }
+{}
+
+/// Nothing to run: the contract is the law that the same tokens have one answer at most, and that a
+/// fault stands at one of them.
+pub fn answers_are_unique()
+    ensures statement { AcceptedAsOne }
+    ensures either { AcceptedIsNotRefused }
+    ensures fault { RefusedWithOne }
+    ensures place { FaultIsAtToken }
+{}
+
+/// Nothing to run: the contract is the law that subtraction groups to the left: no operand of a sum is
+/// a sum without parentheses, which is shown at `x - y - 1 <= 2`.
+pub fn subtraction_groups_left()
+    ensures operands { OperandsAreNoSums }
+    ensures shown { SubtractionGroupsLeft }
+{}

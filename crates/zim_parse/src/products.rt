@@ -1,0 +1,217 @@
+//! Products, loops and sums.
+
+ghost use Rattle.std.specs.Prelude.{◌≡◌, [], ◌∷◌, length, IfOk};
+ghost use Rattle.zim_tree.specs.Levels.{products, sums};
+ghost use Rattle.zim_parse.specs.Outcome.{Gives, Nests};
+ghost use Rattle.zim_parse.specs.Parser as spec;
+ghost use Rattle.zim_parse.specs.Parser.{parse};
+ghost use Rattle.zim_parse.specs.Steps as steps;
+ghost use Rattle.zim_parse.specs.Turns as turns;
+ghost use Rattle.zim_parse.specs.Turns.{repeat, operand_turn};
+
+use crate::failure::Failure;
+use crate::grammar::{Grammar, Wanted};
+use crate::next::word_in;
+use crate::tokens::Tokens;
+use sqlite_items::{Boxed, Items};
+use std::alloc::{AllocError, Global};
+use zim_fault::{Duplicate, Memory, Place, Placed, Token, Word};
+use zim_tree::{Class, Expr, class_of};
+
+/// A product, unless the first operand stands alone.
+fn multiplied(
+    alloc: Global,
+    first: Expr,
+    others: Items<(Place, Token, Expr)>,
+) -> Result<Expr, AllocError>
+    ensures { IfOk result (λ e. e ≡ turns.multiplied first others) }
+{
+    if others.len() == 0 {
+        return Ok(first);
+    }
+    Ok(Expr::Times(Boxed::new(alloc, first)?, others))
+}
+
+/// A sum, unless the first operand stands alone.
+fn added(
+    alloc: Global,
+    first: Expr,
+    others: Items<(Place, Token, Expr)>,
+) -> Result<Expr, AllocError>
+    ensures { IfOk result (λ e. e ≡ turns.added first others) }
+{
+    if others.len() == 0 {
+        return Ok(first);
+    }
+    Ok(Expr::Plus(Boxed::new(alloc, first)?, others))
+}
+
+/// The list of one operand behind its operator.
+fn one_operand(
+    alloc: Global,
+    operator: &Placed,
+    operand: Expr,
+) -> Result<Items<(Place, Token, Expr)>, Memory>
+    ensures { IfOk result (λ others. others ≡ (operator.now.place, operator.now.token, operand) ∷ []) }
+{
+    let token = operator.token.copy()?;
+    let mut others = Items::new(alloc);
+    others.push((operator.place, token, operand))?;
+    Ok(others)
+}
+
+impl<F: Fn(Global, &mut Tokens<'_>, usize, Wanted) -> Result<Expr, Failure>> Grammar<F> {
+    /// The next operator like `*` with its operand, if one comes next.
+    #[tactic(auto, unfolding(crate::specs::Turns::operand_turn, crate::specs::Parser::and_then))]
+    fn next_factor(&self, tokens: &mut Tokens<'_>) -> Result<Option<(Place, Token, Expr)>, Failure>
+        requires { Nests self.now.depth (F.pre self.now.inner) (F.post self.now.inner) }
+        ensures { Gives (operand_turn turns.as_operand products (spec.unary_of (parse self.now.depth)) tokens.old) result tokens.new }
+    {
+        let Some(operator) = tokens.operator(4) else {
+            return Ok(None);
+        };
+        let operand = self.unary(tokens)?;
+        Ok(Some((operator.place, operator.token.copy()?, operand)))
+    }
+
+    /// The operators like `*` that come next, each with its operand.
+    fn factors(&self, tokens: &mut Tokens<'_>) -> Result<Items<(Place, Token, Expr)>, Failure>
+        requires { Nests self.now.depth (F.pre self.now.inner) (F.post self.now.inner) }
+        ensures { Gives (repeat (operand_turn turns.as_operand products (spec.unary_of (parse self.now.depth))) (length tokens.old) tokens.old) result tokens.new }
+    {
+        let mut others = Items::new(self.alloc);
+        for _turn in 0..tokens.len() {
+            match self.next_factor(tokens)? {
+                None => return Ok(others),
+                Some(other) => others.push(other)?,
+            }
+        }
+        Ok(others)
+    }
+
+    /// Operands with operators like `*` between them.
+    #[tactic(auto, using(crate::proofs::TurnLemmas::product_by_turns), unfolding(crate::specs::Parser::and_then))]
+    pub fn product(&self, tokens: &mut Tokens<'_>) -> Result<Expr, Failure>
+        requires { Nests self.now.depth (F.pre self.now.inner) (F.post self.now.inner) }
+        ensures { Gives (spec.product_of (parse self.now.depth) tokens.old) result tokens.new }
+    {
+        let first = self.unary(tokens)?;
+        let others = self.factors(tokens)?;
+        Ok(multiplied(self.alloc, first, others)?)
+    }
+
+    /// A loop behind its word.
+    #[tactic(auto, unfolding(crate::specs::Steps::big_behind, crate::specs::Parser::and_then))]
+    fn big_behind(&self, tokens: &mut Tokens<'_>, place: Place, word: Word) -> Result<Expr, Failure>
+        requires { Nests self.now.depth (F.pre self.now.inner) (F.post self.now.inner) }
+        ensures { Gives (steps.big_behind (parse self.now.depth) place word tokens.old) result tokens.new }
+    {
+        let index = Boxed::new(self.alloc, self.index(tokens)?)?;
+        let with_do = tokens.separator()?;
+        let operand = Boxed::new(self.alloc, self.inner(tokens, Wanted::Term)?)?;
+        Ok(Expr::Big(place, word, index, with_do, operand))
+    }
+
+    /// A loop without a sign.
+    #[tactic(auto, unfolding(crate::specs::Parser::big_of, crate::specs::Steps::big_behind, crate::specs::Parser::and_then))]
+    fn big(&self, tokens: &mut Tokens<'_>) -> Result<Expr, Failure>
+        requires { Nests self.now.depth (F.pre self.now.inner) (F.post self.now.inner) }
+        ensures { Gives (spec.big_of (parse self.now.depth) tokens.old) result tokens.new }
+    {
+        let Some(first) = tokens.take() else {
+            return Err(Failure::Syntax);
+        };
+        match class_of(&first.token) {
+            Class::Loop | Class::MinOrMax => {
+                self.big_behind(tokens, first.place, word_in(&first.token))
+            }
+            _ => Err(Failure::Syntax),
+        }
+    }
+
+    /// A loop with or without a sign.
+    #[tactic(auto, using(crate::proofs::StepLemmas::loop_next), unfolding(crate::specs::Parser::and_then))]
+    fn signed_loop(&self, tokens: &mut Tokens<'_>) -> Result<Expr, Failure>
+        requires { Nests self.now.depth (F.pre self.now.inner) (F.post self.now.inner) }
+        ensures { Gives (spec.loop_of (parse self.now.depth) tokens.old) result tokens.new }
+    {
+        match tokens.eat_signed() {
+            None => self.big(tokens),
+            Some((place, minus)) => {
+                let operand = Boxed::new(self.alloc, self.big(tokens)?)?;
+                Ok(Expr::Signed(place, minus, operand))
+            }
+        }
+    }
+
+    /// A product and the loop behind this operator.
+    #[tactic(auto, unfolding(crate::specs::Steps::loop_behind, crate::specs::Parser::and_then))]
+    fn times_loop(
+        &self,
+        tokens: &mut Tokens<'_>,
+        first: Expr,
+        operator: &Placed,
+    ) -> Result<Expr, Failure>
+        requires { Nests self.now.depth (F.pre self.now.inner) (F.post self.now.inner) }
+        ensures { Gives (steps.loop_behind (parse self.now.depth) first operator.now tokens.old) result tokens.new }
+    {
+        let last = self.signed_loop(tokens)?;
+        let others = one_operand(self.alloc, operator, last)?;
+        Ok(multiplied(self.alloc, first, others)?)
+    }
+
+    /// An operand of a sum: a product, a loop, or a product with a loop as its last operand.
+    #[tactic(auto, using(crate::proofs::StepLemmas::term_next), unfolding(crate::specs::Parser::term_of, crate::specs::Parser::and_then))]
+    pub fn term(&self, tokens: &mut Tokens<'_>) -> Result<Expr, Failure>
+        requires { Nests self.now.depth (F.pre self.now.inner) (F.post self.now.inner) }
+        ensures { Gives (spec.term_of (parse self.now.depth) tokens.old) result tokens.new }
+    {
+        if tokens.opens() {
+            return self.signed_loop(tokens);
+        }
+        let first = self.product(tokens)?;
+        match tokens.operator(5) {
+            None => Ok(first),
+            Some(operator) => self.times_loop(tokens, first, operator),
+        }
+    }
+
+    /// The next operator like `+` with its operand, if one comes next.
+    #[tactic(auto, unfolding(crate::specs::Turns::operand_turn, crate::specs::Parser::and_then))]
+    fn next_summand(&self, tokens: &mut Tokens<'_>) -> Result<Option<(Place, Token, Expr)>, Failure>
+        requires { Nests self.now.depth (F.pre self.now.inner) (F.post self.now.inner) }
+        ensures { Gives (operand_turn turns.as_operand sums (spec.term_of (parse self.now.depth)) tokens.old) result tokens.new }
+    {
+        let Some(operator) = tokens.operator(6) else {
+            return Ok(None);
+        };
+        let operand = self.term(tokens)?;
+        Ok(Some((operator.place, operator.token.copy()?, operand)))
+    }
+
+    /// The operators like `+` that come next, each with its operand.
+    fn summands(&self, tokens: &mut Tokens<'_>) -> Result<Items<(Place, Token, Expr)>, Failure>
+        requires { Nests self.now.depth (F.pre self.now.inner) (F.post self.now.inner) }
+        ensures { Gives (repeat (operand_turn turns.as_operand sums (spec.term_of (parse self.now.depth))) (length tokens.old) tokens.old) result tokens.new }
+    {
+        let mut others = Items::new(self.alloc);
+        for _turn in 0..tokens.len() {
+            match self.next_summand(tokens)? {
+                None => return Ok(others),
+                Some(other) => others.push(other)?,
+            }
+        }
+        Ok(others)
+    }
+
+    /// Operands with operators like `+` between them.
+    #[tactic(auto, using(crate::proofs::TurnLemmas::sum_by_turns), unfolding(crate::specs::Parser::and_then))]
+    pub fn sum(&self, tokens: &mut Tokens<'_>) -> Result<Expr, Failure>
+        requires { Nests self.now.depth (F.pre self.now.inner) (F.post self.now.inner) }
+        ensures { Gives (spec.sum_of (parse self.now.depth) tokens.old) result tokens.new }
+    {
+        let first = self.term(tokens)?;
+        let others = self.summands(tokens)?;
+        Ok(added(self.alloc, first, others)?)
+    }
+}
