@@ -1,4 +1,4 @@
--- What a load, the tokens and the parse tell together of a model.
+-- What a load, the tokens, the parse and plain form tell together of a model.
 use Rattle.std.proofs.Common.{[], ◌∷◌, ◌≡◌, ℕ, List, Option, None, Some, Result, Ok, Err, ap, ◌∙◌, subst, length}
 use Rattle.std.specs.Prelude.{IfSome}
 use Rattle.zim_answer.specs.Gives.{Gives}
@@ -21,14 +21,18 @@ use Rattle.zim_lex.specs.Statements.{statements_of}
 use Rattle.zim_lex.specs.Tokens.{AreTokens, IsFirstStuck}
 use Rattle.zim_cli.specs.declared.ending.Ending.TheVariants as ending
 use Rattle.zim_plain.specs.declared.plain_form.PlainModel.{PlainModel}
-use Rattle.zim_plain.specs.declared.stop.ParseStop.{ParseStop}
-use Rattle.zim_plain.specs.declared.stop.ParseStop.TheVariants as parsing
+use Rattle.zim_plain.specs.declared.stop.PlainStop.{PlainStop}
+use Rattle.zim_plain.specs.declared.stop.PlainStop.TheVariants as stopped
+use Rattle.zim_parse.specs.declared.fault.ParseFault.{ParseFault}
+use Rattle.zim_parse.specs.declared.fault.ParseFault.TheVariants as parsing
+use Rattle.zim_tree.specs.declared.stmt.Stmt.{Stmt}
 use Rattle.zim_cli.specs.declared.stop.ReadStop.{ReadStop}
 use Rattle.zim_cli.specs.declared.stop.ReadStop.TheVariants as reading
 use Rattle.zim_cli.specs.Compile.{WhereTold, HasSystem, Makes, made, refused, unread, no_memory, Compiles}
-use Rattle.zim_cli.specs.Lexed.{LinesBreak, stuck, left_open, broken, LinesParseTo, LinesAnswer}
-use Rattle.zim_plain.specs.Answers.{ParseAnswer}
-use Rattle.zim_cli.specs.Reading.{IsRefusedFor, not_loaded, not_plain}
+use Rattle.zim_cli.specs.Lexed.{LinesBreak, stuck, left_open, unparsed, broken, LinesParseTo, LinesAnswer}
+use Rattle.zim_cli.specs.Parsed.{AreParsed, ParsedAnswer}
+use Rattle.zim_plain.specs.Answers.{PlainAnswer}
+use Rattle.zim_cli.specs.Reading.{IsRefusedFor, not_loaded, not_a_model}
 use Rattle.zim_cli.proofs.FaultPlaces.{breaks_in}
 use Rattle.zim_cli.proofs.FieldLemmas.{can_be_listed}
 
@@ -44,30 +48,41 @@ pub cut_open : {V : Type 0} (view : V → List Span) (lines : List Line) (placed
 cut_open {V} view lines placed r e fault are is stop gives =
     left_open placed fault are (subst (λ (x : Result V LexFault). Gives view lex_cause (statements_of placed) x) (is ∙ ap Err stop) gives)
 
--- the parse's answer, where it is a model and where it is none
-pub lines_parsed : (lines : List Line) (placed : List Placed) (spans : List Span) (r : Result PlainModel ParseStop) (read : PlainModel) → AreTokens lines placed → statements_of placed ≡ Ok spans → r ≡ Ok read →
-    ParseAnswer placed spans r → LinesParseTo lines read
-lines_parsed lines placed spans r read are cut is answer =
-    at (subst (λ (x : Result PlainModel ParseStop). ParseAnswer placed spans x) is answer)
+-- the parse's answer over tokens and spans that are the same
+pub answer_over : (placed tokens : List Placed) (spans cut : List Span) (r : Result (List Stmt) ParseFault) → placed ≡ tokens → spans ≡ cut → ParsedAnswer placed spans r → ParsedAnswer tokens cut r
+answer_over placed tokens spans cut r same also answer =
+    subst (λ (ss : List Span). ParsedAnswer tokens ss r) also (subst (λ (ts : List Placed). ParsedAnswer ts spans r) same answer)
+
+-- where the parse's answer is a fault, tokens are no statement
+pub parsed_broken : (lines : List Line) (placed : List Placed) (spans : List Span) (r : Result (List Stmt) ParseFault) (e : ParseFault) (fault : Fault) → AreTokens lines placed → statements_of placed ≡ Ok spans → r ≡ Err e → e ≡ parsing.Fault fault →
+    ParsedAnswer placed spans r → LinesBreak lines fault
+parsed_broken lines placed spans r e fault are cut is stop answer =
+    unparsed placed spans fault are cut (subst (λ (x : Result (List Stmt) ParseFault). ParsedAnswer placed spans x) (is ∙ ap Err stop) answer)
+
+-- the statements' answer, where it is a model and where it is none
+pub lines_parsed : (lines : List Line) (placed : List Placed) (spans : List Span) (trees : List Stmt) (r : Result PlainModel PlainStop) (read : PlainModel) → AreTokens lines placed → statements_of placed ≡ Ok spans →
+    AreParsed placed spans trees → r ≡ Ok read → PlainAnswer trees r → LinesParseTo lines read
+lines_parsed lines placed spans trees r read are cut parsed is answer =
+    at (subst (λ (x : Result PlainModel PlainStop). PlainAnswer trees x) is answer)
   where
-    at : ParseAnswer placed spans (Ok read) → LinesParseTo lines read
-    at (model, spelled, plain, says) = record {
+    at : PlainAnswer trees (Ok read) → LinesParseTo lines read
+    at (model, trees_are, plain, says) = record {
       model = model;
       spell = record {
         placed = placed;
         tokens = are;
         spans = spans;
         cut = cut;
-        spelled = spelled;
+        parsed = subst (λ (ts : List Stmt). AreParsed placed spans ts) trees_are parsed;
         accepted = record { plain = plain; system = says.system; system_is = says.system_is; faultless = says.faultless };
       };
       says = says;
     }
 
-pub lines_broken : (lines : List Line) (placed : List Placed) (spans : List Span) (r : Result PlainModel ParseStop) (e : ParseStop) (fault : Fault) → AreTokens lines placed → statements_of placed ≡ Ok spans → r ≡ Err e → e ≡ parsing.Fault fault →
-    ParseAnswer placed spans r → LinesBreak lines fault
-lines_broken lines placed spans r e fault are cut is stop answer =
-    broken placed spans fault are cut (subst (λ (x : Result PlainModel ParseStop). ParseAnswer placed spans x) (is ∙ ap Err stop) answer)
+pub lines_broken : (lines : List Line) (placed : List Placed) (spans : List Span) (trees : List Stmt) (r : Result PlainModel PlainStop) (e : PlainStop) (fault : Fault) → AreTokens lines placed → statements_of placed ≡ Ok spans →
+    AreParsed placed spans trees → r ≡ Err e → e ≡ stopped.Fault fault → PlainAnswer trees r → LinesBreak lines fault
+lines_broken lines placed spans trees r e fault are cut parsed is stop answer =
+    broken placed spans trees fault are cut parsed (subst (λ (x : Result PlainModel PlainStop). PlainAnswer trees x) (is ∙ ap Err stop) answer)
 
 -- what is so of told files is so of them in another way
 pub where_map : (held : Option Files) (name : List ℕ) (P Q : Files → List ℕ → Type 0) → ((files : Files) (name : List ℕ) → P files name → Q files name) → WhereTold held name P → WhereTold held name Q
@@ -107,7 +122,7 @@ stopped_loading before now name fault opened r is loads =
     record {
       makes = refused_in before now name fault opened at.opened (fault_told before now name fault opened at);
       reportable = at.fault.place;
-      keeps = record { held = at.only.held; wrote = at.only.wrote };
+      keeps = record { held = at.only.held; wrote = at.only.wrote; faultless_below = at.only.faultless_below };
       write_faults = at.only.write_faults;
     }
 
@@ -118,7 +133,7 @@ stopped_unread before now name other r e loads =
     record {
       makes = unread other (record { told = at.tells.told; untold = at.tells.untold });
       reportable = tt;
-      keeps = record { held = at.only.held; wrote = at.only.wrote };
+      keeps = record { held = at.only.held; wrote = at.only.wrote; faultless_below = at.only.faultless_below };
       write_faults = at.only.write_faults;
     }
 
@@ -126,7 +141,7 @@ pub stopped_memory : (before now : FolderState) (name : List ℕ) (r : Result Lo
 stopped_memory before now name r loads = record {
   makes = no_memory;
   reportable = tt;
-  keeps = record { held = loads.only.held; wrote = loads.only.wrote };
+  keeps = record { held = loads.only.held; wrote = loads.only.wrote; faultless_below = loads.only.faultless_below };
   write_faults = loads.only.write_faults;
 }
 
@@ -144,9 +159,9 @@ compiled before now name loaded read r e loads parses =
     record {
       makes = made read
           (where_map before.held name (IsLoaded loaded) (HasSystem read) (has_system loaded read parses) (loaded_told before now name loaded at))
-          (can_be_listed loaded.lines parses.spell.placed parses.spell.spans parses.model read parses.spell.tokens parses.spell.spelled parses.says);
+          (can_be_listed loaded.lines parses.spell.placed parses.spell.spans parses.model read parses.spell.tokens parses.spell.parsed parses.says);
       reportable = tt;
-      keeps = record { held = at.only.held; wrote = at.only.wrote };
+      keeps = record { held = at.only.held; wrote = at.only.wrote; faultless_below = at.only.faultless_below };
       write_faults = at.only.write_faults;
     }
 
@@ -156,9 +171,9 @@ stopped_broken before now name loaded fault r is loads breaks =
     let at : Loads before now name (Ok loaded) = subst (λ (x : Result Loaded LoadFault). Loads before now name x) is loads in
     record {
       makes = refused_in before now name fault loaded.files at.opened
-          (where_map before.held name (IsLoaded loaded) (IsFaultOf fault loaded.files) (λ files n loaded_as. not_plain loaded fault loaded_as breaks) (loaded_told before now name loaded at));
+          (where_map before.held name (IsLoaded loaded) (IsFaultOf fault loaded.files) (λ files n loaded_as. not_a_model loaded fault loaded_as breaks) (loaded_told before now name loaded at));
       reportable = breaks_in (length loaded.files) loaded.lines fault breaks at.within.lines.places;
-      keeps = record { held = at.only.held; wrote = at.only.wrote };
+      keeps = record { held = at.only.held; wrote = at.only.wrote; faultless_below = at.only.faultless_below };
       write_faults = at.only.write_faults;
     }
 

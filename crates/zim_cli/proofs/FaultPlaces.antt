@@ -1,8 +1,9 @@
--- The place of a fault of lines is that of one of the lines.
-use Rattle.std.proofs.Common.{◌≡◌, ℕ, ◌+◌, ◌<◌, Bool, true, false, cond, List, [], ◌∷◌, ◌++◌, length, get_or, Ok, Err, Option, Some, None, sym, ◌∙◌, subst, arith}
+-- The place of a fault of lines is in one of the files that the lines are in.
+use Rattle.std.proofs.Common.{◌≡◌, ℕ, ◌+◌, ◌<◌, Bool, true, false, cond, nat_lt, List, [], ◌∷◌, ◌++◌, length, map, Ok, Err, Option, Some, None, refl, sym, ◌∙◌, ap, ap₂, subst, arith}
 use Rattle.std.specs.Prelude.{All}
 use Rattle.std.specs.List.{AllByRecursion, slice_split, onto_first, flat_map}
-use Rattle.std.proofs.lemmas.List.Elements.{All-from_recursion, recursion_from_All}
+use Rattle.std.proofs.lemmas.Bool.Decides.{nat_tests}
+use Rattle.std.proofs.lemmas.List.Elements.{All-contains, All-from_recursion, recursion_from_All}
 use Rattle.zim_answer.specs.Answer.{Answer, ◌>>=◌}
 use Rattle.zim_fault.specs.declared.faults.Fault.{Fault}
 use Rattle.zim_fault.specs.declared.faults.Place.{Place}
@@ -13,13 +14,25 @@ use Rattle.zim_lex.specs.declared.lines.Span.{Span}
 use Rattle.zim_lex.specs.Pieces.{token_of}
 use Rattle.zim_lex.specs.Statements.{ends_statement, spans_from, statements_of}
 use Rattle.zim_lex.specs.Tokens.{placed_token, tokens_at, AreTokens, none, more, IsFirstStuck, here, later}
-use Rattle.zim_cli.specs.Lexed.{LinesBreak, stuck, left_open, broken}
-use Rattle.zim_plain.specs.Segments.{IsWithin}
-use Rattle.zim_plain.specs.Answers as segments
+use Rattle.zim_tree.specs.declared.stmt.Stmt.{Stmt}
+use Rattle.zim_tree.specs.PlainStatement.{replaced_statement}
+use Rattle.zim_parse.specs.Scan.{Accepts}
+use Rattle.zim_parse.proofs.OneAnswer.{fault_is_at_token}
+use Rattle.zim_parse.proofs.Meaning.{places_are_of_tokens}
 use Rattle.zim_plain.specs.Answers.{IsFirstFault}
-use Rattle.zim_cli.proofs.SpanLemmas.{from-more, spans_within, within_at}
-use Rattle.zim_cli.proofs.SpelledLemmas.{all_append, all_spelled, one_spelled}
-use Rattle.zim_cli.proofs.StatementPlaces.{PlaceIn, TokensIn, statement_fault_in, system_fault_in}
+use Rattle.zim_plain.proofs.FaultPlaces.{place_stands}
+use Rattle.zim_cli.specs.Parsed.{segment, AreParsed, IsFirstRefused}
+use Rattle.zim_cli.specs.Lexed.{LinesBreak, stuck, left_open, unparsed, broken}
+use Rattle.zim_cli.proofs.SpanLemmas.{from-more}
+use Rattle.zim_cli.proofs.ParsedLemmas.{all_append, all_segment, all_parsed}
+
+-- a place is in one of the first files, so many of them
+abbrev PlaceIn : ℕ → Place → Type 0
+PlaceIn n place = place.file < n
+
+-- tokens are
+abbrev TokensIn : ℕ → List Placed → Type 0
+TokensIn n placed = AllByRecursion (λ (p : Placed). PlaceIn n p.place) placed
 
 -- the lines are in the first files, so many of them
 abbrev LinesIn : ℕ → List Line → Type 0
@@ -85,27 +98,62 @@ open_in n placed fault e h = open_in_parts n 0 (slice_split ends_statement place
 
 -- the first fault of the statements
 
-first_in : (n : ℕ) (placed : List Placed) (before : List Span) (span : Span) (after : List Span) (first : Placed) → All (IsWithin (length placed)) (before ++ span ∷ after) → get_or placed span.from first ≡ first → TokensIn n placed → PlaceIn n first.place
-first_in n placed before span after first within first_is h =
-    let at : IsWithin (length placed) span =
-    within_at (length placed) before span after (recursion_from_All (IsWithin (length placed)) (before ++ span ∷ after) within) in
-    let there : span.from < length placed = omega (arith, at.some, at.within) in
-    subst (λ (p : Placed). PlaceIn n p.place) first_is
-    (All-from_recursion (λ (p : Placed). PlaceIn n p.place) placed h span.from first there)
+places_in : (n : ℕ) (placed : List Placed) → TokensIn n placed → AllByRecursion (PlaceIn n) (map (λ (p : Placed). p.place) placed)
+places_in n [] h = tt
+places_in n (p ∷ placed) h = (h.0, places_in n placed h.1)
 
-first_fault_in : (n : ℕ) (placed : List Placed) (spans : List Span) (fault : Fault) → All (IsWithin (length placed)) spans → IsFirstFault placed spans fault → TokensIn n placed → PlaceIn n fault.place
-first_fault_in n placed spans _ within (segments.broken before span after model first whole spelled unspelled first_is) h =
-    first_in n placed before span after first (subst (All (IsWithin (length placed))) whole within) first_is h
-first_fault_in n placed spans _ within (segments.stated before s after fault spelled faultless has) h =
-    statement_fault_in n before s fault has
-    (one_spelled (λ (p : Placed). PlaceIn n p.place) before s after (all_spelled (λ (p : Placed). PlaceIn n p.place) placed spans (before ++ s ∷ after) h spelled))
-first_fault_in n placed spans _ within (segments.finished model system fault spelled plain is e) h =
-    system_fault_in n model system fault is e (all_spelled (λ (p : Placed). PlaceIn n p.place) placed spans model h spelled)
+refused_in : (n : ℕ) (placed : List Placed) (spans : List Span) (fault : Fault) → IsFirstRefused placed spans fault → TokensIn n placed → PlaceIn n fault.place
+refused_in n placed spans fault first h =
+    let places : List Place = map (λ (p : Placed). p.place) (segment placed first.span) in
+    All-contains (PlaceIn n) places fault.place
+    (All-from_recursion (PlaceIn n) places (places_in n (segment placed first.span) (all_segment (λ (p : Placed). PlaceIn n p.place) placed first.span h)))
+    (fault_is_at_token (segment placed first.span) fault first.refused)
+
+-- a place that is in one of the first files as it is, and each other one put elsewhere
+kept_within : ℕ → Place → Place
+kept_within n place = cond (nat_lt place.file n) place (record { file = place.file + 1; line = place.line })
+
+kept_there : (n : ℕ) (place : Place) → PlaceIn n place → kept_within n place ≡ place
+unfolding kept_within
+kept_there n place h = by (nat_lt place.file n) (grind (arith, nat_tests))
+  where
+    by : (b : Bool) → b ≡ true → cond b place (record { file = place.file + 1; line = place.line }) ≡ place
+    by true e = refl
+    by false e = cc
+
+there_kept : (n : ℕ) (place : Place) → kept_within n place ≡ place → PlaceIn n place
+unfolding kept_within
+there_kept n place h = by (nat_lt place.file n) refl h
+  where
+    by : (b : Bool) → nat_lt place.file n ≡ b → cond b place (record { file = place.file + 1; line = place.line }) ≡ place → PlaceIn n place
+    by true e h = grind (arith, nat_tests)
+    by false e h = let same : place.file + 1 ≡ place.file = ap (λ (p : Place). p.file) h in absurd (omega (arith, same))
+
+tokens_kept : (n : ℕ) (placed : List Placed) → TokensIn n placed → AllByRecursion (λ (p : Placed). kept_within n p.place ≡ p.place) placed
+tokens_kept n [] h = tt
+tokens_kept n (p ∷ placed) h = (kept_there n p.place h.0, tokens_kept n placed h.1)
+
+-- the places of statements are where those of their tokens are
+statement_kept : (n : ℕ) (ts : List Placed) (s : Stmt) → Accepts ts s → TokensIn n ts → replaced_statement (kept_within n) s ≡ s
+statement_kept n ts s is h = places_are_of_tokens (kept_within n) ts s is.reads (tokens_kept n ts h)
+
+each_kept : (g : Place → Place) (trees : List Stmt) → AllByRecursion (λ (s : Stmt). replaced_statement g s ≡ s) trees → map (replaced_statement g) trees ≡ trees
+each_kept g [] h = refl
+each_kept g (tree ∷ trees) h = ap₂ (λ (s : Stmt) (ss : List Stmt). s ∷ ss) h.0 (each_kept g trees h.1)
+
+first_fault_in : (n : ℕ) (placed : List Placed) (spans : List Span) (trees : List Stmt) (fault : Fault) → AreParsed placed spans trees → IsFirstFault trees fault → TokensIn n placed → PlaceIn n fault.place
+first_fault_in n placed spans trees fault parsed first h =
+    there_kept n fault.place
+    (place_stands trees fault first (kept_within n)
+    (each_kept (kept_within n) trees
+    (all_parsed (λ (p : Placed). PlaceIn n p.place) (λ (s : Stmt). replaced_statement (kept_within n) s ≡ s) (statement_kept n) placed spans trees h parsed)))
 
 -- the place of a first fault is in a file that the lines are in
 pub breaks_in : (n : ℕ) (lines : List Line) (fault : Fault) → LinesBreak lines fault → All (λ (line : Line). line.place.file < n) lines → fault.place.file < n
 breaks_in n lines _ (stuck fault is) all = stuck_in n lines fault is (recursion_from_All (λ (line : Line). line.place.file < n) lines all)
 breaks_in n lines _ (left_open placed fault are cut) all =
     open_in n placed fault cut (tokens_in n lines placed are (recursion_from_All (λ (line : Line). line.place.file < n) lines all))
-breaks_in n lines _ (broken placed spans fault are cut breaks) all =
-    first_fault_in n placed spans fault (spans_within placed spans cut) breaks (tokens_in n lines placed are (recursion_from_All (λ (line : Line). line.place.file < n) lines all))
+breaks_in n lines _ (unparsed placed spans fault are cut first) all =
+    refused_in n placed spans fault first (tokens_in n lines placed are (recursion_from_All (λ (line : Line). line.place.file < n) lines all))
+breaks_in n lines _ (broken placed spans trees fault are cut parsed first) all =
+    first_fault_in n placed spans trees fault parsed first (tokens_in n lines placed are (recursion_from_All (λ (line : Line). line.place.file < n) lines all))

@@ -25,15 +25,20 @@ use Rattle.zim_rows.specs.declared.rows.Row.{Row}
 use Rattle.zim_rows.specs.Finished.{program_of}
 use Rattle.zim_rows.specs.Program.{LinearProgram}
 use Rattle.zim_rows.specs.Scaled.{scaled_row}
+use Rattle.zim_tree.specs.declared.stmt.Stmt.{Stmt}
+use Rattle.zim_tree.specs.declared.stmt.Shape.{Shape}
+use Rattle.zim_tree.specs.declared.stmt.Shape.TheVariants as shape
+use Rattle.zim_tree.specs.StatementGrammar.{ReadsShape, a_set_statement, a_param_statement, a_var_statement, a_goal_statement, a_subto_statement, a_definition, a_do_statement, ReadsStatement, a_statement}
 use Rattle.zim_table.specs.Correct.{IsStatement, CanBeListed}
 use Rattle.zim_table.specs.declared.names.Names.{Names}
 use Rattle.zim_plain.specs.declared.plain_form.PlainModel.{PlainModel}
-use Rattle.zim_plain.specs.Statements.{Statement, Variable, Objective, Constraint, Model, spelled_statement, variables, name_of}
-use Rattle.zim_plain.specs.Segments.{Spell}
+use Rattle.zim_plain.specs.Statements.{Statement, Variable, Objective, Constraint, Model, variables, name_of}
+use Rattle.zim_plain.specs.Trees.{tree_of, trees_of}
 use Rattle.zim_plain.specs.Answers.{Says}
 use Rattle.zim_cli.specs.Outputs.{names_of_statements}
+use Rattle.zim_cli.specs.Parsed.{AreParsed}
 use Rattle.zim_cli.proofs.RowPositions.{position_there, rows_there, rows_rise}
-use Rattle.zim_cli.proofs.SpelledLemmas.{AllSpelled, all_spelled}
+use Rattle.zim_cli.proofs.ParsedLemmas.{all_append, all_parts, all_parsed}
 
 -- bytes
 
@@ -87,8 +92,7 @@ abbrev AreNamed : List Placed → Type 0
 AreNamed placed = AllByRecursion (λ (p : Placed). IsNamed p.token) placed
 
 named_append : (xs ys : List Placed) → AreNamed xs → AreNamed ys → AreNamed (xs ++ ys)
-named_append [] ys h k = k
-named_append (x ∷ xs) ys h k = (h.0, named_append xs ys h.1 k)
+named_append xs ys h k = all_append (λ (p : Placed). IsNamed p.token) xs ys h k
 
 piece_named : (place : Place) (piece : List ℕ) → AreNamed (placed_token place (token_of piece))
 piece_named place piece = by_token (token_of piece) refl
@@ -109,20 +113,42 @@ tokens_named _ _ (more line lines first others at rest) =
 
 -- statements
 
-statement_named : (s : Statement) → AreNamed (spelled_statement s) → IsField (name_of s)
-statement_named (Variable head end) h = h.1.0
-statement_named (Objective maximize head colon sum end) h = h.1.0
-statement_named (Constraint head colon left sense at right end) h = h.1.0
+-- what a statement of this shape declares is a field; a `do` declares nothing
+abbrev IsNamedShape : Shape → List ℕ → Type 0
+IsNamedShape (shape.Do doing) name = ⊤
+IsNamedShape _ name = IsField name
 
-statements_named : (model : Model) → AllSpelled (λ (p : Placed). IsNamed p.token) model → AllByRecursion (λ (s : Statement). IsField (name_of s)) model
+shape_named : (p q : Place) (name : List ℕ) (ts : List Placed) (what : Shape) → ReadsShape p q name ts what → AreNamed ts → IsNamedShape what name
+shape_named _ _ _ _ _ (a_set_statement p q r name brackets side) h = h.1.0
+shape_named _ _ _ _ _ (a_param_statement p q r name brackets side) h = h.1.0
+shape_named _ _ _ _ _ (a_var_statement p q name kept brackets kind limits priority startval) h = h.1.0
+shape_named _ _ _ _ _ (a_goal_statement p q r maximize name objective) h = h.1.0
+shape_named _ _ _ _ _ (a_subto_statement p q r name constraint) h = h.1.0
+shape_named _ _ _ _ _ (a_definition p q r s t _ name is parameters inside) h = h.1.0
+shape_named _ _ _ _ _ (a_do_statement p inside) h = tt
+
+-- the name of a statement is a token
+abbrev IsNamedStatement : Stmt → Type 0
+IsNamedStatement s = IsNamedShape s.shape s.name
+
+read_named : (ts : List Placed) (s : Stmt) → ReadsStatement ts s → AreNamed ts → IsNamedStatement s
+read_named _ _ (a_statement p q r name {ts = ts} {what = what} reads) h =
+    shape_named p q name ts what reads (all_parts (λ (p : Placed). IsNamed p.token) ts _ h).0
+
+statement_named : (s : Statement) → IsNamedStatement (tree_of s) → IsField (name_of s)
+statement_named (Variable head) h = h
+statement_named (Objective maximize head sum) h = h
+statement_named (Constraint head left sense at right) h = h
+
+statements_named : (model : Model) → AllByRecursion IsNamedStatement (trees_of model) → AllByRecursion (λ (s : Statement). IsField (name_of s)) model
 statements_named [] h = tt
 statements_named (s ∷ model) h = (statement_named s h.0, statements_named model h.1)
 
 variables_fields : (model : Model) → AllByRecursion (λ (s : Statement). IsField (name_of s)) model → AllByRecursion IsField (variables model)
 variables_fields [] h = tt
-variables_fields (Variable head end ∷ model) h = (h.0, variables_fields model h.1)
-variables_fields (Objective maximize head colon sum end ∷ model) h = variables_fields model h.1
-variables_fields (Constraint head colon left sense at right end ∷ model) h = variables_fields model h.1
+variables_fields (Variable head ∷ model) h = (h.0, variables_fields model h.1)
+variables_fields (Objective maximize head sum ∷ model) h = variables_fields model h.1
+variables_fields (Constraint head left sense at right ∷ model) h = variables_fields model h.1
 
 names_fields : (model : Model) → AllByRecursion (λ (s : Statement). IsField (name_of s)) model → AllByRecursion IsField (map name_of model)
 names_fields [] h = tt
@@ -136,11 +162,12 @@ objective_statement names count None e fields low = tt
 objective_statement names count (Some position) e fields low = is_statement names position count e fields low
 
 -- what the lines of a model give can be listed
-pub can_be_listed : (lines : List Line) (placed : List Placed) (spans : List Span) (model : Model) (read : PlainModel) → AreTokens lines placed → Spell placed spans model → Says model read → CanBeListed (program_of read.system) read.variables (names_of_statements read)
-can_be_listed lines placed spans model read tokens spell says =
+pub can_be_listed : (lines : List Line) (placed : List Placed) (spans : List Span) (model : Model) (read : PlainModel) → AreTokens lines placed → AreParsed placed spans (trees_of model) → Says model read → CanBeListed (program_of read.system) read.variables (names_of_statements read)
+can_be_listed lines placed spans model read tokens parsed says =
     let names : Names = names_of_statements read in
     let each : AllByRecursion (λ (s : Statement). IsField (name_of s)) model =
-    statements_named model (all_spelled (λ (p : Placed). IsNamed p.token) placed spans model (tokens_named lines placed tokens) spell) in
+    statements_named model
+    (all_parsed (λ (p : Placed). IsNamed p.token) IsNamedStatement (λ ts s is. read_named ts s is.reads) placed spans (trees_of model) (tokens_named lines placed tokens) parsed) in
     let count : length read.statements ≡ length model = ap length says.statements ∙ length-map model name_of in
     let fields : All IsField read.statements = subst (All IsField) (sym says.statements) (All-from_recursion IsField (map name_of model) (names_fields model each)) in
     let rows : map scaled_row says.system.rows ≡ read.system.rows = sym (ap (λ (p : LinearProgram). p.rows) says.program_is) in

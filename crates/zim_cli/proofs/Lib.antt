@@ -1,7 +1,6 @@
 pub mod SameTexts
-mod SegmentFaults
-mod SpelledLemmas
-mod StatementPlaces
+mod ParsedLemmas
+mod ParsingLemmas
 mod RowPositions
 mod WithinLemmas
 mod BreakLemmas
@@ -16,5 +15,6 @@ mod OutputsLemmas
 mod PairLemmas
 mod PerformLemmas
 mod RunLemmas
+mod FaultlessLemmas
 mod TokensLemmas
 mod WriteFileLemmas

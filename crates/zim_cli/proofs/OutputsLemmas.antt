@@ -35,11 +35,12 @@ then_holds before between now change n name bytes makes holds = record {
       ∙ ap (λ (held : Option Files). option_map (λ (files : Files). map.insert files name bytes) held) makes.held
       ∙ held_then before.held change (λ files. map.insert files name bytes);
   wrote = holds.wrote ∙ ap (option_map (count_on (length bytes))) makes.wrote ∙ count_then before.wrote n (length bytes);
+  faultless_below = holds.faultless_below ∙ makes.faultless_below;
 }
 
 -- a step that changed nothing
 then_keeps : (before between now : FolderState) (change : Files → Files) (n : ℕ) → Makes before between change n → KeepsFiles between now → Makes before now change n
-then_keeps before between now change n makes keeps = record { held = keeps.held ∙ makes.held; wrote = keeps.wrote ∙ makes.wrote }
+then_keeps before between now change n makes keeps = record { held = keeps.held ∙ makes.held; wrote = keeps.wrote ∙ makes.wrote; faultless_below = keeps.faultless_below ∙ makes.faultless_below }
 
 -- what the files may be made where this step stops
 record Stage (IsPart : List ℕ → List ℕ → Type 0) (base : List ℕ) (texts : Texts) (output : Output) (change : Files → Files) (n : ℕ) (name text : List ℕ) : Type 0 where
@@ -76,7 +77,7 @@ all_stopped before between now base texts output change n name text stop.Memory 
     (output, stopped_in IsEmptyFrontOf before between now base texts output change n name text far.makes (stage IsEmptyFrontOf) (nothing_of between now name text (writes.refused refl)))
 
 nothing_made : (state : FolderState) → Makes state state (λ files. files) 0
-nothing_made state = record { held = held_same state.held; wrote = no_count state.wrote }
+nothing_made state = record { held = held_same state.held; wrote = no_count state.wrote; faultless_below = refl }
 
 so_far_none : (state : FolderState) → SoFar state state (λ files. files) 0
 so_far_none state = record { makes = nothing_made state; low = omega arith }
@@ -104,7 +105,7 @@ clear_stopped before now base name texts r s e is writes =
   where
     cleared : (IsPart : List ℕ → List ℕ → Type 0) → KeepsFiles before now ⊎ HoldsOnly before now (output_name base Table) [] → IsStoppedAt IsPart before now base texts Table
     cleared IsPart (inl same) = record { change = λ files. files; bytes = 0; at = untouched; makes = then_keeps before before now (λ files. files) 0 (nothing_made before) same }
-    cleared IsPart (inr holds) = record { change = without_table base; bytes = 0; at = emptied; makes = record { held = holds.held; wrote = holds.wrote } }
+    cleared IsPart (inr holds) = record { change = without_table base; bytes = 0; at = emptied; makes = record { held = holds.held; wrote = holds.wrote; faultless_below = holds.faultless_below } }
 
     no_part : IsPartOf before now (output_name base Table) [] → KeepsFiles before now ⊎ HoldsOnly before now (output_name base Table) []
     no_part (inl same) = inl same

@@ -123,6 +123,7 @@ makes_since : (before between now : FolderState) (change : Files → Files) (n :
 makes_since before between now change n same makes = record {
   held = makes.held ∙ ap (λ (held : Option Files). option_map change held) same.held;
   wrote = makes.wrote ∙ ap (λ (wrote : Option ℕ). option_map (count_on n) wrote) same.wrote;
+  faultless_below = makes.faultless_below ∙ same.faultless_below;
 }
 
 stopped_since : (IsPart : List ℕ → List ℕ → Type 0) (before between now : FolderState) (base : List ℕ) (texts : Texts) (output : Output) → KeepsFiles before between → IsStoppedAt IsPart between now base texts output → IsStoppedAt IsPart before now base texts output
@@ -160,4 +161,4 @@ usage_by {E} before job r o is none ok =
 
 -- memory was refused for the job
 pub job_refused : (before : FolderState) (job : Option Job) → Ended job before before ending.Memory
-job_refused before job = run.no_memory (record { held = refl; wrote = refl })
+job_refused before job = run.no_memory (record { held = refl; wrote = refl; faultless_below = refl })

@@ -13,9 +13,9 @@ use Rattle.zim_plain.specs.Systems.{AreRowsOf, objective_position}
 -- the objective is one of the statements
 pub position_there : (at n : ℕ) (model : Model) → at + length model ≤ n → IfSome (objective_position at model) (λ (p : ℕ). p < n)
 position_there at n [] l = tt
-position_there at n (Variable head end ∷ model) l = position_there (at + 1) n model (omega arith)
-position_there at n (Objective maximize head colon sum end ∷ model) l = omega arith
-position_there at n (Constraint head colon left sense place right end ∷ model) l = position_there (at + 1) n model (omega arith)
+position_there at n (Variable head ∷ model) l = position_there (at + 1) n model (omega arith)
+position_there at n (Objective maximize head sum ∷ model) l = omega arith
+position_there at n (Constraint head left sense place right ∷ model) l = position_there (at + 1) n model (omega arith)
 
 -- a row comes from one of the statements from here to there
 record IsFromBetween (at n : ℕ) (row : Row) : Type 0 where
@@ -28,10 +28,10 @@ lower at n (row ∷ rows) h = (record { low = omega (arith, h.0.low); high = h.0
 
 rows_between : (names : List Text) (at n : ℕ) (model : Model) (rows : List GivenRow) → at + length model ≤ n → AreRowsOf names at model rows → AllByRecursion (IsFromBetween at n) (map scaled_row rows)
 rows_between names at n [] rows l h = subst (λ (rs : List GivenRow). AllByRecursion (IsFromBetween at n) (map scaled_row rs)) (sym h) tt
-rows_between names at n (Variable head end ∷ model) rows l h = lower at n (map scaled_row rows) (rows_between names (at + 1) n model rows (omega arith) h)
-rows_between names at n (Objective maximize head colon sum end ∷ model) rows l h = lower at n (map scaled_row rows) (rows_between names (at + 1) n model rows (omega arith) h)
-rows_between names at n (Constraint head colon left sense place right end ∷ model) [] l h = absurd h
-rows_between names at n (Constraint head colon left sense place right end ∷ model) (row ∷ rows) l h =
+rows_between names at n (Variable head ∷ model) rows l h = lower at n (map scaled_row rows) (rows_between names (at + 1) n model rows (omega arith) h)
+rows_between names at n (Objective maximize head sum ∷ model) rows l h = lower at n (map scaled_row rows) (rows_between names (at + 1) n model rows (omega arith) h)
+rows_between names at n (Constraint head left sense place right ∷ model) [] l h = absurd h
+rows_between names at n (Constraint head left sense place right ∷ model) (row ∷ rows) l h =
     (record { low = omega (arith, h.0.statement); high = omega (arith, h.0.statement) }, lower at n (map scaled_row rows) (rows_between names (at + 1) n model rows (omega arith) h.1))
 
 -- each row comes from a statement
@@ -45,12 +45,12 @@ no_rows rows e = ap (λ (rs : List GivenRow). length (map scaled_row rs)) e
 -- the rows come in the order of their statements
 pub rows_rise : (names : List Text) (at : ℕ) (model : Model) (rows : List GivenRow) → AreRowsOf names at model rows → IsNonDecreasingBy (λ (r : Row). r.from.statement) (map scaled_row rows)
 rows_rise names at [] rows h i j d l m = absurd (omega (arith, no_rows rows h, m))
-rows_rise names at (Variable head end ∷ model) rows h i j d l m = rows_rise names (at + 1) model rows h i j d l m
-rows_rise names at (Objective maximize head colon sum end ∷ model) rows h i j d l m = rows_rise names (at + 1) model rows h i j d l m
-rows_rise names at (Constraint head colon left sense place right end ∷ model) [] h i j d l m = absurd h
-rows_rise names at (Constraint head colon left sense place right end ∷ model) (row ∷ rows) h zero zero d l m = omega arith
-rows_rise names at (Constraint head colon left sense place right end ∷ model) (row ∷ rows) h zero (suc j) d l m =
+rows_rise names at (Variable head ∷ model) rows h i j d l m = rows_rise names (at + 1) model rows h i j d l m
+rows_rise names at (Objective maximize head sum ∷ model) rows h i j d l m = rows_rise names (at + 1) model rows h i j d l m
+rows_rise names at (Constraint head left sense place right ∷ model) [] h i j d l m = absurd h
+rows_rise names at (Constraint head left sense place right ∷ model) (row ∷ rows) h zero zero d l m = omega arith
+rows_rise names at (Constraint head left sense place right ∷ model) (row ∷ rows) h zero (suc j) d l m =
     let later = All-from_recursion (IsFromBetween (at + 1) (at + 1 + length model)) (map scaled_row rows) (rows_between names (at + 1) (at + 1 + length model) model rows (omega arith) h.1) j d (omega arith) in
     omega (arith, later.low, h.0.statement)
-rows_rise names at (Constraint head colon left sense place right end ∷ model) (row ∷ rows) h (suc i) zero d l m = absurd (omega arith)
-rows_rise names at (Constraint head colon left sense place right end ∷ model) (row ∷ rows) h (suc i) (suc j) d l m = rows_rise names (at + 1) model rows h.1 i j d (omega arith) (omega arith)
+rows_rise names at (Constraint head left sense place right ∷ model) (row ∷ rows) h (suc i) zero d l m = absurd (omega arith)
+rows_rise names at (Constraint head left sense place right ∷ model) (row ∷ rows) h (suc i) (suc j) d l m = rows_rise names (at + 1) model rows h.1 i j d (omega arith) (omega arith)

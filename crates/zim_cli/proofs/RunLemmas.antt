@@ -47,7 +47,7 @@ same_model job model base other over e f = cc
 model_is : (job : Option Job) (model base other over : List ℕ) (P : List ℕ → Type 0) → job ≡ Some (Compile model base) → job ≡ Some (Compile other over) → P other → P model
 model_is job model base other over P e f at = subst P (same_model job other over model base f e) at
 
-no_job : (job : Option Job) (model base : List ℕ) → job ≡ None → job ≡ Some (Compile model base) → ⊥
+pub no_job : (job : Option Job) (model base : List ℕ) → job ≡ None → job ≡ Some (Compile model base) → ⊥
 no_job job model base none some = cc
 
 -- the job's model that is refused

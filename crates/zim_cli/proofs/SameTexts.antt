@@ -1,9 +1,7 @@
 -- The systems of one model have the same texts.
-use Rattle.std.proofs.Common.{◌≡◌, List, refl, sym, ◌∙◌, ap}
-use Rattle.zim_rows.specs.System.{LinearSystem}
+use Rattle.std.proofs.Common.{◌≡◌, List, refl, sym, ◌∙◌}
 use Rattle.zim_rows.specs.Finished.{program_of}
 use Rattle.zim_rows.specs.Program.{LinearProgram}
-use Rattle.zim_rows.specs.Scaled.{scaled_program}
 use Rattle.zim_lp.specs.Text.{lp_text}
 use Rattle.zim_mps.specs.Text.{mps_text}
 use Rattle.zim_table.specs.declared.names.Names.{Names}
@@ -12,7 +10,7 @@ use Rattle.zim_plain.specs.declared.plain_form.PlainModel.{PlainModel}
 use Rattle.zim_plain.specs.Statements.{Text, Model}
 use Rattle.zim_plain.specs.Answers.{Says}
 use Rattle.zim_cli.specs.Outputs.{Texts, names_of_statements, texts_of}
-use Rattle.zim_plain.proofs.SystemLaws.{a_model_has_one_system}
+use Rattle.zim_plain.proofs.FaultLaws.{one_program}
 
 -- the texts of a program with the names of its variables and statements
 abbrev written : LinearProgram → List Text → Names → Texts
@@ -28,6 +26,6 @@ same_names a b e f = rw (e, f) refl
 pub same_texts : (model : Model) (a b : PlainModel) → Says model a → Says model b → texts_of a ≡ texts_of b
 same_texts model a b h k =
     same_written (program_of a.system) (program_of b.system) a.variables b.variables (names_of_statements a) (names_of_statements b)
-    (h.program_is ∙ (ap (λ (s : LinearSystem). scaled_program s) (a_model_has_one_system model h.system k.system h.system_is k.system_is) ∙ sym k.program_is))
+    (one_program model a b h k)
     (h.variables_are ∙ sym k.variables_are)
     (same_names (names_of_statements a) (names_of_statements b) (h.statements ∙ sym k.statements) (h.objective_is ∙ sym k.objective_is))

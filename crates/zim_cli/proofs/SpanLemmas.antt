@@ -1,5 +1,5 @@
 -- The spans of statements lie among the tokens.
-use Rattle.std.proofs.Common.{◌≡◌, ℕ, zero, ◌+◌, ◌≤◌, Bool, true, false, cond, List, [], ◌∷◌, ◌++◌, length, Ok, Err, refl, sym, ◌∙◌, subst, arith}
+use Rattle.std.proofs.Common.{◌≡◌, ℕ, zero, ◌+◌, ◌≤◌, Bool, true, false, cond, List, [], ◌∷◌, length, Ok, Err, refl, sym, ◌∙◌, subst, arith}
 use Rattle.std.specs.Prelude.{All}
 use Rattle.std.specs.List.{AllByRecursion, slice_split, onto_first}
 use Rattle.std.proofs.lemmas.List.Elements.{All-from_recursion}
@@ -8,7 +8,7 @@ use Rattle.zim_fault.specs.declared.faults.Fault.{Fault}
 use Rattle.zim_fault.specs.declared.tokens.Placed.{Placed}
 use Rattle.zim_lex.specs.declared.lines.Span.{Span}
 use Rattle.zim_lex.specs.Statements.{ends_statement, spans_from, statements_of}
-use Rattle.zim_plain.specs.Segments.{IsWithin}
+use Rattle.zim_cli.specs.Parsed.{IsWithin}
 
 -- how many there are in parts, each with one more
 abbrev total : List (List Placed) → ℕ
@@ -53,7 +53,3 @@ pub spans_within : (placed : List Placed) (spans : List Span) → statements_of 
 unfolding statements_of
 spans_within placed spans e =
     All-from_recursion (IsWithin (length placed)) spans (within_from 0 (slice_split ends_statement placed) spans (length placed) e (omega (arith, total_split placed)))
-
-pub within_at : (n : ℕ) (before : List Span) (span : Span) (after : List Span) → AllByRecursion (IsWithin n) (before ++ span ∷ after) → IsWithin n span
-within_at n [] span after h = h.0
-within_at n (x ∷ before) span after h = within_at n before span after h.1

@@ -34,7 +34,7 @@ use Rattle.zim_mps.specs.Readable.{IsReadable, IsReadableSide, IsReadableTerm, I
 use Rattle.zim_mps.specs.Text.{FileColumn, minimised, coefficient_of, cost_of, numbered_column, offset_column, right_of}
 use Rattle.zim_plain.specs.Statements.{Text, Variable, Objective, Constraint, Model, variables}
 use Rattle.zim_plain.specs.Systems.{AreRowsOf, nonnegative, IsSystemOf}
-use Rattle.zim_cli.proofs.SpelledLemmas.{all_append}
+use Rattle.zim_cli.proofs.ParsedLemmas.{all_append}
 
 -- ---- numbers within the limit
 
@@ -203,10 +203,10 @@ one_read k kind sense right e = subst (λ (kind : RowKind). IsReadableRange (sca
 
 ranges_read : (names : List Text) (position : ℕ) (model : Model) (rs : List GivenRow) → AreRowsOf names position model rs → AllByRecursion HasReadableRange (map scaled_row rs)
 ranges_read names position [] rs is = subst (λ (rs : List GivenRow). AllByRecursion HasReadableRange (map scaled_row rs)) (sym is) tt
-ranges_read names position (Variable head end ∷ model) rs is = ranges_read names (position + 1) model rs is
-ranges_read names position (Objective maximize head colon sum end ∷ model) rs is = ranges_read names (position + 1) model rs is
-ranges_read names position (Constraint head colon left sense at right end ∷ model) [] is = absurd is
-ranges_read names position (Constraint head colon left sense at right end ∷ model) (row ∷ rs) is =
+ranges_read names position (Variable head ∷ model) rs is = ranges_read names (position + 1) model rs is
+ranges_read names position (Objective maximize head sum ∷ model) rs is = ranges_read names (position + 1) model rs is
+ranges_read names position (Constraint head left sense at right ∷ model) [] is = absurd is
+ranges_read names position (Constraint head left sense at right ∷ model) (row ∷ rs) is =
     (one_read (row_factor row.terms row.kind) row.kind sense _ is.0.kind, ranges_read names (position + 1) model rs is.1)
 
 -- the sides of columns

@@ -31,11 +31,12 @@ holds-put before begun now name bytes begins appends = record {
       ∙ ap (λ (held : Option Files). option_map (put_to (Some name) bytes) held) begins.ok
       ∙ held-put name bytes before.held;
   wrote = appends.wrote ∙ ap (option_map (count_on (length bytes))) begins.wrote;
+  faultless_below = appends.faultless_below ∙ begins.faultless_below;
 }
 
 -- what an end leaves is what was there
 holds-end : (before put now : FolderState) (name bytes : List ℕ) (e : Result ⊤ Failed) → HoldsOnly before put name bytes → Ends put now e → HoldsOnly before now name bytes
-holds-end before put now name bytes e holds ends = record { held = ends.held ∙ holds.held; wrote = ends.wrote ∙ holds.wrote }
+holds-end before put now name bytes e holds ends = record { held = ends.held ∙ holds.held; wrote = ends.wrote ∙ holds.wrote; faultless_below = ends.faultless_below ∙ holds.faultless_below }
 
 -- no bytes leave a count as it is
 counts-nothing : (wrote : Option ℕ) → wrote ≡ option_map (count_on 0) wrote
@@ -43,16 +44,16 @@ counts-nothing None = refl
 counts-nothing (Some n) = let same : n ≡ count_on 0 n = omega arith in ap Some same
 
 -- a file that was made to hold nothing
-holds-nothing : (before now : FolderState) (name : List ℕ) → now.held ≡ option_map (emptied name) before.held → now.wrote ≡ before.wrote → HoldsOnly before now name []
-holds-nothing before now name held wrote = record { held = held; wrote = wrote ∙ counts-nothing before.wrote }
+holds-nothing : (before now : FolderState) (name : List ℕ) → now.held ≡ option_map (emptied name) before.held → now.wrote ≡ before.wrote → now.faultless_below ≡ before.faultless_below → HoldsOnly before now name []
+holds-nothing before now name held wrote promise = record { held = held; wrote = wrote ∙ counts-nothing before.wrote; faultless_below = promise }
 
 no_bytes-front : (text : List ℕ) → IsFrontOf [] text
 no_bytes-front text = record { rest = text; whole = refl }
 
-begun_or_kept : (before now : FolderState) (name : List ℕ) → now.wrote ≡ before.wrote → (now.held ≡ before.held) ⊎ (now.held ≡ option_map (emptied name) before.held) →
+begun_or_kept : (before now : FolderState) (name : List ℕ) → now.wrote ≡ before.wrote → now.faultless_below ≡ before.faultless_below → (now.held ≡ before.held) ⊎ (now.held ≡ option_map (emptied name) before.held) →
     KeepsFiles before now ⊎ HoldsOnly before now name []
-begun_or_kept before now name wrote (inl kept) = inl (record { held = kept; wrote = wrote })
-begun_or_kept before now name wrote (inr emptied_now) = inr (holds-nothing before now name emptied_now wrote)
+begun_or_kept before now name wrote promise (inl kept) = inl (record { held = kept; wrote = wrote; faultless_below = promise })
+begun_or_kept before now name wrote promise (inr emptied_now) = inr (holds-nothing before now name emptied_now wrote promise)
 
 stopped_at_once : (before now : FolderState) (name text : List ℕ) → KeepsFiles before now ⊎ HoldsOnly before now name [] → IsPartOf before now name text
 stopped_at_once before now name text (inl kept) = inl kept
@@ -60,7 +61,7 @@ stopped_at_once before now name text (inr holds) = inr ([], no_bytes-front text,
 
 begin_stopped : (before now : FolderState) (name text : List ℕ) (s : BeginStop) → Begins before now name (Err s) → WritesFile before now name text (Err s)
 begin_stopped before now name text s begins =
-    let left : KeepsFiles before now ⊎ HoldsOnly before now name [] = begun_or_kept before now name begins.wrote begins.err in
+    let left : KeepsFiles before now ⊎ HoldsOnly before now name [] = begun_or_kept before now name begins.wrote begins.faultless_below begins.err in
     record { ok = tt; err = stopped_at_once before now name text left; failed = begins.failed; refused = λ _. left; write_faults = begins.write_faults }
 
 -- the begin was refused
@@ -151,7 +152,7 @@ pub file_cleared : (before begun now : FolderState) (name : List ℕ) (b : Resul
 file_cleared before begun now name b e well begins ends =
     let at : Begins before begun name (Ok tt) = subst (λ (r : Result ⊤ BeginStop). Begins before begun name r) well begins in
     record {
-      ok = holds-end before begun now name [] e (holds-nothing before begun name at.ok at.wrote) ends;
+      ok = holds-end before begun now name [] e (holds-nothing before begun name at.ok at.wrote at.faultless_below) ends;
       err = tt;
       failed = λ h. absurd (well-no_err tt stop.Failed h);
       refused = λ h. absurd (well-no_err tt stop.Memory h);
@@ -165,7 +166,7 @@ clear_failed before begun now name b e f well bad begins ends =
     let rose : Rose begun.write_faults now.write_faults = (subst (λ (r : Result ⊤ Failed). Ends begun now r) bad ends).failed in
     record {
       ok = tt;
-      err = inr ([], whole-front [], holds-end before begun now name [] e (holds-nothing before begun name at.ok at.wrote) ends);
+      err = inr ([], whole-front [], holds-end before begun now name [] e (holds-nothing before begun name at.ok at.wrote at.faultless_below) ends);
       failed = λ _. Rose-from before.write_faults begun.write_faults now.write_faults begins.write_faults rose;
       refused = λ h. absurd (failed-no_memory h);
       write_faults = omega (arith, begins.write_faults, ends.write_faults);

@@ -1,5 +1,5 @@
 -- What a run promises: how it ended, what its line is, and which endings must come.
-use Rattle.std.specs.Prelude.{◌≡◌, ℕ, ◌⊎◌, List, Option, Some, None, option_map}
+use Rattle.std.specs.Prelude.{◌≡◌, ℕ, ◌+◌, ◌<◌, ◌⊎◌, List, Option, Some, None, option_map}
 use Rattle.zim_gate.specs.Counts.{Rose}
 use Rattle.zim_gate.specs.Folder.{FolderState, Files, bytes_held}
 use Rattle.zim_gate.specs.Sink.{SinkState}
@@ -13,9 +13,11 @@ use Rattle.zim_table.specs.Ended.{EndsInEnd}
 use Rattle.zim_cli.specs.declared.outputs.Output.TheVariants.{Table}
 use Rattle.zim_cli.specs.Compile.{WhereTold}
 use Rattle.zim_cli.specs.Ending.{status_of, line_of, TakesLine}
+use Rattle.zim_plain.specs.declared.plain_form.PlainModel.{PlainModel}
 use Rattle.zim_plain.specs.Statements.{Model}
+use Rattle.zim_plain.specs.Answers.{Says}
 use Rattle.zim_cli.specs.Reading.{HasModel, IsRefusedFor, MissesFile}
-use Rattle.zim_cli.specs.Outputs.{output_name, with_table}
+use Rattle.zim_cli.specs.Outputs.{texts_of, all_lengths, output_name, with_table}
 use Rattle.zim_cli.specs.Run.{Ended, OfTexts}
 
 -- A run ended in one way, with its status, and the error stream took its line.
@@ -62,6 +64,18 @@ MustBeReadFault job before result =
 abbrev pub HoldsAllFiles : FolderState → FolderState → List ℕ → List ℕ → Type 0
 HoldsAllFiles before now model base =
     WhereTold before.held model (OfTexts (λ texts. now.held ≡ option_map (with_table base texts texts.table) before.held))
+
+-- A run has room below a limit: what was put before, with all texts of the named model, if it is one, is less.
+pub record HasRoom (files : Files) (model : List ℕ) (wrote limit : ℕ) : Type 0 where
+  pub before : wrote < limit
+  pub texts : (read : Model) (system : PlainModel) → HasModel files model read → Says read system →
+      wrote + all_lengths (texts_of system) < limit
+
+-- A folder that promises to fail at nothing while fewer bytes than a limit were put failed at nothing, where the run has room below it.
+abbrev pub MustNotFail : Option Job → FolderState → FolderState → Type 0
+MustNotFail job before now =
+    (model base : List ℕ) (files : Files) (wrote limit : ℕ) → job ≡ Some (Compile model base) → before.held ≡ Some files →
+    before.wrote ≡ Some wrote → before.faultless_below ≡ Some limit → HasRoom files model wrote limit → NothingRose before now
 
 -- A table that ends in its last line is one that stood there before a run that changed no file, or all files are whole.
 abbrev pub EndedTableIsWhole : Option Job → FolderState → FolderState → Type 0

@@ -7,28 +7,32 @@ use Rattle.zim_lex.specs.declared.lines.Span.{Span}
 use Rattle.zim_lex.specs.Tokens.{AreTokens, IsFirstStuck}
 use Rattle.zim_lex.specs.Statements.{statements_of}
 use Rattle.zim_plain.specs.declared.plain_form.PlainModel.{PlainModel}
+use Rattle.zim_tree.specs.declared.stmt.Stmt.{Stmt}
 use Rattle.zim_plain.specs.Statements.{Model}
-use Rattle.zim_plain.specs.Segments.{Spell}
+use Rattle.zim_plain.specs.Trees.{trees_of}
 use Rattle.zim_plain.specs.Answers.{Says, IsAccepted, IsFirstFault}
+use Rattle.zim_cli.specs.Parsed.{AreParsed, IsFirstRefused}
 use Rattle.zim_cli.specs.declared.stop.ReadStop.{ReadStop}
 use Rattle.zim_cli.specs.declared.stop.ReadStop.TheVariants as reading
 
--- The tokens of lines, cut after each semicolon, are spelled by the statements of a model that is accepted.
+-- The tokens of lines, cut after each semicolon, are the statements of a model that is accepted.
 pub record LinesSpell (lines : List Line) (model : Model) : Type 0 where
   pub placed : List Placed
   pub tokens : AreTokens lines placed
   pub spans : List Span
   pub cut : statements_of placed ≡ Ok spans
-  pub spelled : Spell placed spans model
+  pub parsed : AreParsed placed spans (trees_of model)
   pub accepted : IsAccepted model
 
 -- The first fault of lines: a byte that begins no piece, an unclosed quote among them; else tokens that no semicolon ends; else the
--- first fault of the statements.
+-- first fault of tokens that are no statement; else the first fault of the statements.
 pub data LinesBreak (lines : List Line) : Fault → Type 0 where
   stuck : (fault : Fault) → IsFirstStuck lines fault → LinesBreak lines fault
   left_open : (placed : List Placed) (fault : Fault) → AreTokens lines placed → statements_of placed ≡ Err fault → LinesBreak lines fault
-  broken : (placed : List Placed) (spans : List Span) (fault : Fault) → AreTokens lines placed → statements_of placed ≡ Ok spans →
-      IsFirstFault placed spans fault → LinesBreak lines fault
+  unparsed : (placed : List Placed) (spans : List Span) (fault : Fault) → AreTokens lines placed → statements_of placed ≡ Ok spans →
+      IsFirstRefused placed spans fault → LinesBreak lines fault
+  broken : (placed : List Placed) (spans : List Span) (trees : List Stmt) (fault : Fault) → AreTokens lines placed → statements_of placed ≡ Ok spans →
+      AreParsed placed spans trees → IsFirstFault trees fault → LinesBreak lines fault
 
 -- The lines spell a model, whose system this is.
 pub record LinesParseTo (lines : List Line) (read : PlainModel) : Type 0 where

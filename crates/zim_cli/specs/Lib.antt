@@ -6,6 +6,7 @@ pub mod FilesOf
 pub mod WriteFile
 pub mod Outputs
 pub mod Ending
+pub mod Parsed
 pub mod Lexed
 pub mod Compile
 pub mod Run

@@ -77,6 +77,10 @@ with_table base texts bytes files = map.insert (with_mps base texts texts.mps fi
 abbrev pub both_lengths : Texts → ℕ
 both_lengths texts = length texts.lp + length texts.mps
 
+-- How many bytes all texts have together.
+abbrev pub all_lengths : Texts → ℕ
+all_lengths texts = both_lengths texts + length texts.table
+
 -- No byte of a text.
 abbrev pub IsEmptyFrontOf : List ℕ → List ℕ → Type 0
 IsEmptyFrontOf front text = front ≡ []
@@ -93,10 +97,12 @@ pub data StopsAt (IsPart : List ℕ → List ℕ → Type 0) (base : List ℕ) (
   table_kept : StopsAt IsPart base texts Table (with_mps base texts texts.mps) (both_lengths texts)
   table_part : (front : List ℕ) → IsPart front texts.table → StopsAt IsPart base texts Table (with_table base texts front) (both_lengths texts + length front)
 
--- The files are what this makes of them, and so many bytes were put; where files or bytes aren't told, they stay so.
+-- The files are what this makes of them, and so many bytes were put; where files or bytes aren't told, they stay so. The folder's
+-- promise is as before.
 pub record Makes (before now : FolderState) (change : Files → Files) (bytes : ℕ) : Type 0 where
   pub held : now.held ≡ option_map change before.held
   pub wrote : now.wrote ≡ option_map (count_on bytes) before.wrote
+  pub faultless_below : now.faultless_below ≡ before.faultless_below
 
 -- The work stopped at an output, as before that step or with a part of what it puts, `IsPart` saying which parts may be.
 pub record IsStoppedAt (IsPart : List ℕ → List ℕ → Type 0) (before now : FolderState) (base : List ℕ) (texts : Texts) (output : Output) : Type 0 where

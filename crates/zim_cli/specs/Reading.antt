@@ -18,7 +18,7 @@ pub record HasModel (files : Files) (name : List ℕ) (model : Model) : Type 0 w
 -- fault of loading, which is too many bytes or too deep an include line; else the first fault of the lines.
 pub data IsRefusedFor (files : Files) (name : List ℕ) : Fault → List (List ℕ) → Type 0 where
   not_loaded : (fault : Fault) (opened : List (List ℕ)) → model_in files name ≡ Err (At fault opened) → IsRefusedFor files name fault opened
-  not_plain : (loaded : Loaded) (fault : Fault) → model_in files name ≡ Ok loaded → LinesBreak loaded.lines fault →
+  not_a_model : (loaded : Loaded) (fault : Fault) → model_in files name ≡ Ok loaded → LinesBreak loaded.lines fault →
       IsRefusedFor files name fault loaded.files
 
 -- Among the files there is none of this name, which the model opens: it is the model's own, or that of a file that it includes.

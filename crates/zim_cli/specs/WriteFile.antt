@@ -6,16 +6,18 @@ use Rattle.zim_gate.specs.Folder.{FolderState, Files}
 use Rattle.zim_gate.specs.declared.stops.BeginStop.{BeginStop}
 use Rattle.zim_gate.specs.declared.stops.BeginStop.TheVariants as stop
 
--- No file was changed, and no byte was put.
+-- No file was changed, no byte was put, and the folder's promise is as before.
 pub record KeepsFiles (before now : FolderState) : Type 0 where
   pub held : now.held ≡ before.held
   pub wrote : now.wrote ≡ before.wrote
+  pub faultless_below : now.faultless_below ≡ before.faultless_below
 
 -- The named file holds the bytes now and every other file is as before, and just so many bytes were put. Where files
--- aren't told, they stay so.
+-- aren't told, they stay so. The folder's promise is as before.
 pub record HoldsOnly (before now : FolderState) (name bytes : List ℕ) : Type 0 where
   pub held : now.held ≡ option_map (λ (files : Files). map.insert files name bytes) before.held
   pub wrote : now.wrote ≡ option_map (count_on (length bytes)) before.wrote
+  pub faultless_below : now.faultless_below ≡ before.faultless_below
 
 -- No file was changed, or the named file holds a first part of the text.
 abbrev pub IsPartOf : FolderState → FolderState → List ℕ → List ℕ → Type 0

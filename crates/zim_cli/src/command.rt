@@ -1,7 +1,7 @@
 ghost use Rattle.std.specs.Prelude.{◌≡◌, Some, map, string_bytes};
 ghost use Rattle.zim_cli.specs.declared.jobs.Job.TheVariants.{Compile};
 ghost use Rattle.zim_cli.specs.Ending.{IsReportable, ending_of_writing};
-ghost use Rattle.zim_cli.specs.Headline.{Runs, MustBeUsage, MustBeDone, MustBeRefused, MustBeReadFault, EndedTableIsWhole};
+ghost use Rattle.zim_cli.specs.Headline.{Runs, MustBeUsage, MustBeDone, MustBeRefused, MustBeReadFault, MustNotFail, EndedTableIsWhole};
 ghost use Rattle.zim_cli.specs.Job.{job_of};
 ghost use Rattle.zim_cli.specs.Run.{Ended};
 
@@ -79,6 +79,8 @@ pub fn run<F: Folder, O: Sink, E: Sink>(
     ensures done { MustBeDone (job_of (map string_bytes words.now)) (F.state folder.old) (F.state folder.new) result }
     ensures refused { MustBeRefused (job_of (map string_bytes words.now)) (F.state folder.old) (F.state folder.new) result }
     ensures read_fault { MustBeReadFault (job_of (map string_bytes words.now)) (F.state folder.old) result }
+    // A folder that promises to fail at nothing fails at nothing, where the run has room below the limit of its promise.
+    ensures faultless { MustNotFail (job_of (map string_bytes words.now)) (F.state folder.old) (F.state folder.new) }
     // Beside a table of this run that ends in its last line, the other files are whole.
     ensures ended_table { EndedTableIsWhole (job_of (map string_bytes words.now)) (F.state folder.old) (F.state folder.new) }
     // Nothing is put to `out`.

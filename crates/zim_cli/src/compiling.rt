@@ -2,11 +2,13 @@ ghost use Rattle.zim_cli.specs.Compile.{Compiles};
 ghost use Rattle.zim_cli.specs.Lexed.{LinesAnswer};
 
 use crate::ending::Ending;
+use crate::parsing::parsed_statements;
 use crate::stop::ReadStop;
 use std::alloc::Global;
 use zim_gate::Folder;
 use zim_lex::{LexFault, Line, LoadFault, Loaded, lex, load, statements};
-use zim_plain::{ParseStop, PlainModel, parse};
+use zim_parse::ParseFault;
+use zim_plain::{PlainModel, PlainStop, plain_model};
 
 /// The system of the model whose lines these are, or their first fault.
 fn system_of_lines(alloc: Global, lines: &[Line]) -> Result<PlainModel, ReadStop>
@@ -22,10 +24,15 @@ fn system_of_lines(alloc: Global, lines: &[Line]) -> Result<PlainModel, ReadStop
         Err(LexFault::Fault(fault)) => return Err(ReadStop::Refused(fault)),
         Err(LexFault::Memory) => return Err(ReadStop::Memory),
     };
-    match parse(alloc, tokens.as_slice(), spans.as_slice()) {
+    let parsed = match parsed_statements(alloc, tokens.as_slice(), spans.as_slice()) {
+        Ok(parsed) => parsed,
+        Err(ParseFault::Fault(fault)) => return Err(ReadStop::Refused(fault)),
+        Err(ParseFault::Memory) => return Err(ReadStop::Memory),
+    };
+    match plain_model(alloc, parsed.as_slice()) {
         Ok(system) => Ok(system),
-        Err(ParseStop::Fault(fault)) => Err(ReadStop::Refused(fault)),
-        Err(ParseStop::Memory) => Err(ReadStop::Memory),
+        Err(PlainStop::Fault(fault)) => Err(ReadStop::Refused(fault)),
+        Err(PlainStop::Memory) => Err(ReadStop::Memory),
     }
 }
 
@@ -33,8 +40,9 @@ fn system_of_lines(alloc: Global, lines: &[Line]) -> Result<PlainModel, ReadStop
 ///
 /// The first fault is, in this order: files past 67,108,864 bytes together, an include line that is too deep or a file that isn't
 /// there, whichever loading meets first; a quote that isn't closed on its line or another byte that begins no piece; tokens that no
-/// semicolon ends; a statement that breaks plain form, a number past 128 bits or a row or a column too many, in the order that
-/// `zim_plain::parse` tells. Nothing is written.
+/// semicolon ends; the first of all statements that the grammar refuses, in the order that `zim_parse::parse_statement` tells; a
+/// statement that isn't of plain form or may not follow those before it, a number past 128 bits or a row or a column too many, in
+/// the order that `zim_plain::plain_model` tells. Nothing is written.
 pub fn compile<F: Folder>(alloc: Global, folder: &mut F, model: &[u8]) -> Result<PlainModel, Ending>
     ensures { Compiles (F.state folder.old) (F.state folder.new) model.now result }
 {

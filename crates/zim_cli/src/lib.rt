@@ -2,8 +2,8 @@
 //!
 //! [`run`] is the call that the program makes, and its contract is the theorem about the program:
 //! how a run ends, what it leaves in the folder, and what the written files say of the model
-//! (`specs/Headline.antt`, which leads to the rest). A model is text in plain form, whose grammar and
-//! meaning are those of `zim_plain`.
+//! (`specs/Headline.antt`, which leads to the rest). A model is text whose statements, parsed by the
+//! grammar of `zim_tree`, are of plain form; `zim_plain` says what that is and what they mean.
 #![tactic(auto)]
 
 mod command;
@@ -12,6 +12,7 @@ mod ending;
 mod jobs;
 mod laws;
 mod outputs;
+mod parsing;
 mod status;
 mod stop;
 mod words;

@@ -16,15 +16,15 @@ use Rattle.zim_rows.specs.declared.faults.RowFault.{RowFault}
 use Rattle.zim_rows.specs.declared.faults.RowFault.TheVariants as fault
 use Rattle.zim_rows.specs.System.{LinearSystem, column_of, row_of, with_column, with_row, ColumnAnswer, RowAdded}
 use Rattle.zim_rows.specs.System as system
-use Rattle.zim_plain.specs.declared.stop.ParseStop.{ParseStop}
-use Rattle.zim_plain.specs.declared.stop.ParseStop.TheVariants as parsing
+use Rattle.zim_plain.specs.declared.stop.PlainStop.{PlainStop}
+use Rattle.zim_plain.specs.declared.stop.PlainStop.TheVariants as stopped
 use Rattle.zim_plain.specs.Statements.{Text, Head, Sum, Statement, Variable, Objective, Constraint, Model, head_of, name_of, variables}
 use Rattle.zim_plain.specs.Suits.{SuitsSum, MayFollow}
 use Rattle.zim_plain.specs.Faults.{fault_at, rows_of, limit_fault, number_fault, HasFault, unsuited, numbers}
 use Rattle.zim_plain.specs.Systems.{nonnegative}
 use Rattle.zim_plain.specs.Sides.{MadeAnswer, list_fault, IsListForm, row_fault, IsRowForm}
 use Rattle.zim_plain.specs.Build.{Built, Stands, IsSmall, stop_of_row, AddAnswer}
-use Rattle.zim_plain.proofs.Faulting.{or_else_first, or_else_second}
+use Rattle.zim_plain.proofs.Faulting.{first_of_first, first_of_second}
 use Rattle.zim_plain.proofs.BuildLaws.{is_taken, IsNew, is_new, no_objective, is_full, rows_counted, row_then, with_variable, with_objective, made_row, with_constraint, stands_variable, stands_objective, stands_constraint}
 
 -- ---- what was built
@@ -63,10 +63,10 @@ pushed_row s at sense ts n m q r e f = rw (e, f) refl
 
 -- ---- one statement more
 
-pub added_variable : (old after : Built) (head : Head) (end : Place) → after ≡ with_variable old head.name → IsSmall old → length old.system.columns < 1000000 → is_taken old head.name ≡ false → (before : Model) → Stands before old → Stands (before ++ Variable head end ∷ []) after
-added_variable old after head end same small few free before s =
-    subst (λ (b : Built). Stands (before ++ Variable head end ∷ []) b) (sym same)
-    (stands_variable before old head end s (is_new before old head.name s free) (omega (arith, ap length s.names, small.columns)))
+pub added_variable : (old after : Built) (head : Head) → after ≡ with_variable old head.name → IsSmall old → length old.system.columns < 1000000 → is_taken old head.name ≡ false → (before : Model) → Stands before old → Stands (before ++ Variable head ∷ []) after
+added_variable old after head same small few free before s =
+    subst (λ (b : Built). Stands (before ++ Variable head ∷ []) b) (sym same)
+    (stands_variable before old head s (is_new before old head.name s free) (omega (arith, ap length s.names, small.columns)))
 
 pub small_variable : (old after : Built) (name : Text) → after ≡ with_variable old name → IsSmall old → length old.system.columns < 1000000 → IsSmall after
 small_variable old after name same small few =
@@ -78,16 +78,16 @@ small_variable old after name same small few =
       statements = omega (arith, small.statements, length-append old.variables (name ∷ []), length-append old.statements (name ∷ []));
     })
 
-pub may_objective : (before : Model) (old : Built) (maximize : Bool) (head : Head) (colon : Place) (sum : Sum) (end : Place) → Stands before old → IsNone old.objective → is_taken old head.name ≡ false → SuitsSum old.variables sum → MayFollow before (Objective maximize head colon sum end)
-may_objective before old maximize head colon sum end s none free suits = record {
+pub may_objective : (before : Model) (old : Built) (maximize : Bool) (head : Head) (sum : Sum) → Stands before old → IsNone old.objective → is_taken old head.name ≡ false → SuitsSum old.variables sum → MayFollow before (Objective maximize head sum)
+may_objective before old maximize head sum s none free suits = record {
   name_new = is_new before old head.name s free;
   parts = (subst (λ (ns : List Text). SuitsSum ns sum) s.names suits, no_objective before old s none);
 }
 
-pub added_objective : (old after : Built) (maximize : Bool) (head : Head) (colon : Place) (sum : Sum) (end : Place) (form : LinearForm) → after ≡ with_objective old maximize head.name head.at form → IsNone old.objective → is_taken old head.name ≡ false → SuitsSum old.variables sum → MadeAnswer (list_fault sum) (IsListForm old.variables sum) (Ok form) → (before : Model) → Stands before old → Stands (before ++ Objective maximize head colon sum end ∷ []) after
-added_objective old after maximize head colon sum end form same none free suits made before s =
-    subst (λ (b : Built). Stands (before ++ Objective maximize head colon sum end ∷ []) b) (sym same)
-    (stands_objective before old maximize head colon sum end form s (may_objective before old maximize head colon sum end s none free suits) made.0
+pub added_objective : (old after : Built) (maximize : Bool) (head : Head) (sum : Sum) (form : LinearForm) → after ≡ with_objective old maximize head.name head.at form → IsNone old.objective → is_taken old head.name ≡ false → SuitsSum old.variables sum → MadeAnswer (list_fault sum) (IsListForm old.variables sum) (Ok form) → (before : Model) → Stands before old → Stands (before ++ Objective maximize head sum ∷ []) after
+added_objective old after maximize head sum form same none free suits made before s =
+    subst (λ (b : Built). Stands (before ++ Objective maximize head sum ∷ []) b) (sym same)
+    (stands_objective before old maximize head sum form s (may_objective before old maximize head sum s none free suits) made.0
     (subst (λ (ns : List Text). IsListForm ns sum form) s.names made.1))
 
 pub small_objective : (old after : Built) (maximize : Bool) (name : Text) (place : Place) (form : LinearForm) → after ≡ with_objective old maximize name place form → IsNone old.objective → IsSmall old → IsSmall after
@@ -104,16 +104,16 @@ small_objective old after maximize name place form same none small =
     counted true e h = cc
     counted false e h = omega (arith, h, length-append old.statements (name ∷ []))
 
-pub may_constraint : (before : Model) (old : Built) (head : Head) (colon : Place) (left : Sum) (sense : Sense) (at : Place) (right : Sum) (end : Place) → Stands before old → is_taken old head.name ≡ false → SuitsSum old.variables left → SuitsSum old.variables right → MayFollow before (Constraint head colon left sense at right end)
-may_constraint before old head colon left sense at right end s free p q = record {
+pub may_constraint : (before : Model) (old : Built) (head : Head) (left : Sum) (sense : Sense) (at : Place) (right : Sum) → Stands before old → is_taken old head.name ≡ false → SuitsSum old.variables left → SuitsSum old.variables right → MayFollow before (Constraint head left sense at right)
+may_constraint before old head left sense at right s free p q = record {
   name_new = is_new before old head.name s free;
   parts = (subst (λ (ns : List Text). SuitsSum ns left) s.names p, subst (λ (ns : List Text). SuitsSum ns right) s.names q);
 }
 
-pub added_constraint : (old after : Built) (head : Head) (colon : Place) (left : Sum) (sense : Sense) (at : Place) (right : Sum) (end : Place) (form : LinearForm) → after ≡ with_constraint old head.name at form sense → length old.system.rows < 1000000 → is_taken old head.name ≡ false → SuitsSum old.variables left → SuitsSum old.variables right → MadeAnswer (row_fault left at right) (IsRowForm old.variables left right) (Ok form) → (before : Model) → Stands before old → Stands (before ++ Constraint head colon left sense at right end ∷ []) after
-added_constraint old after head colon left sense at right end form same few free p q made before s =
-    subst (λ (b : Built). Stands (before ++ Constraint head colon left sense at right end ∷ []) b) (sym same)
-    (stands_constraint before old head colon left sense at right end form s (may_constraint before old head colon left sense at right end s free p q) few made.0
+pub added_constraint : (old after : Built) (head : Head) (left : Sum) (sense : Sense) (at : Place) (right : Sum) (form : LinearForm) → after ≡ with_constraint old head.name at form sense → length old.system.rows < 1000000 → is_taken old head.name ≡ false → SuitsSum old.variables left → SuitsSum old.variables right → MadeAnswer (row_fault left at right) (IsRowForm old.variables left right) (Ok form) → (before : Model) → Stands before old → Stands (before ++ Constraint head left sense at right ∷ []) after
+added_constraint old after head left sense at right form same few free p q made before s =
+    subst (λ (b : Built). Stands (before ++ Constraint head left sense at right ∷ []) b) (sym same)
+    (stands_constraint before old head left sense at right form s (may_constraint before old head left sense at right s free p q) few made.0
     (subst (λ (ns : List Text). IsRowForm ns left right form) s.names made.1))
 
 pub small_constraint : (old after : Built) (name : Text) (at : Place) (form : LinearForm) (sense : Sense) → after ≡ with_constraint old name at form sense → length old.system.rows < 1000000 → IsSmall old → IsSmall after
@@ -129,40 +129,40 @@ small_constraint old after name at form sense same few small =
 -- ---- faults
 
 -- a statement that may not follow is told at its first word
-pub refused : (before : Model) (statement : Statement) (after : Built) (stop : ParseStop) → stop ≡ parsing.Fault (fault_at Syntax (head_of statement).word) → ¬ MayFollow before statement → AddAnswer before statement after (Err stop)
-refused before statement after stop e other = subst (λ (s : ParseStop). AddAnswer before statement after (Err s)) (sym e) (unsuited other)
+pub refused : (before : Model) (statement : Statement) (after : Built) (stop : PlainStop) → stop ≡ stopped.Fault (fault_at Syntax (head_of statement).word) → ¬ MayFollow before statement → AddAnswer before statement after (Err stop)
+refused before statement after stop e other = subst (λ (s : PlainStop). AddAnswer before statement after (Err s)) (sym e) (unsuited other)
 
 -- a fault of the numbers of a statement that may follow
-pub faulty : {V : Type 0} (before : Model) (statement : Statement) (after : Built) (stop : ParseStop) (first : Option Fault) (Is : V → Type 0) → MayFollow before statement → ((f : Fault) → first ≡ Some f → number_fault before statement ≡ Some f) → MadeAnswer first Is (Err stop) → AddAnswer before statement after (Err stop)
-faulty before statement after (parsing.Fault met) first Is may goes answer = numbers met may (goes met answer)
-faulty before statement after parsing.Memory first Is may goes answer = tt
+pub faulty : {V : Type 0} (before : Model) (statement : Statement) (after : Built) (stop : PlainStop) (first : Option Fault) (Is : V → Type 0) → MayFollow before statement → ((f : Fault) → first ≡ Some f → number_fault before statement ≡ Some f) → MadeAnswer first Is (Err stop) → AddAnswer before statement after (Err stop)
+faulty before statement after (stopped.Fault met) first Is may goes answer = numbers met may (goes met answer)
+faulty before statement after stopped.Memory first Is may goes answer = tt
 
-pub objective_faulty : (old after : Built) (maximize : Bool) (head : Head) (colon : Place) (sum : Sum) (end : Place) (stop : ParseStop) → IsNone old.objective → is_taken old head.name ≡ false → SuitsSum old.variables sum → MadeAnswer (list_fault sum) (IsListForm old.variables sum) (Err stop) → (before : Model) → Stands before old → AddAnswer before (Objective maximize head colon sum end) after (Err stop)
+pub objective_faulty : (old after : Built) (maximize : Bool) (head : Head) (sum : Sum) (stop : PlainStop) → IsNone old.objective → is_taken old head.name ≡ false → SuitsSum old.variables sum → MadeAnswer (list_fault sum) (IsListForm old.variables sum) (Err stop) → (before : Model) → Stands before old → AddAnswer before (Objective maximize head sum) after (Err stop)
 unfolding number_fault
-objective_faulty old after maximize head colon sum end stop none free suits answer before s =
-    faulty before (Objective maximize head colon sum end) after stop (list_fault sum) (IsListForm old.variables sum) (may_objective before old maximize head colon sum end s none free suits) (λ f e. e) answer
+objective_faulty old after maximize head sum stop none free suits answer before s =
+    faulty before (Objective maximize head sum) after stop (list_fault sum) (IsListForm old.variables sum) (may_objective before old maximize head sum s none free suits) (λ f e. e) answer
 
-pub constraint_faulty : (old after : Built) (head : Head) (colon : Place) (left : Sum) (sense : Sense) (at : Place) (right : Sum) (end : Place) (stop : ParseStop) → is_taken old head.name ≡ false → SuitsSum old.variables left → SuitsSum old.variables right → MadeAnswer (row_fault left at right) (IsRowForm old.variables left right) (Err stop) → (before : Model) → Stands before old → AddAnswer before (Constraint head colon left sense at right end) after (Err stop)
+pub constraint_faulty : (old after : Built) (head : Head) (left : Sum) (sense : Sense) (at : Place) (right : Sum) (stop : PlainStop) → is_taken old head.name ≡ false → SuitsSum old.variables left → SuitsSum old.variables right → MadeAnswer (row_fault left at right) (IsRowForm old.variables left right) (Err stop) → (before : Model) → Stands before old → AddAnswer before (Constraint head left sense at right) after (Err stop)
 unfolding number_fault
-constraint_faulty old after head colon left sense at right end stop free p q answer before s =
-    faulty before (Constraint head colon left sense at right end) after stop (row_fault left at right) (IsRowForm old.variables left right) (may_constraint before old head colon left sense at right end s free p q)
-    (λ f e. sym (row_then left at right (limit_fault (rows_of before) TooManyRows at)) ∙ or_else_first _ _ _ e) answer
+constraint_faulty old after head left sense at right stop free p q answer before s =
+    faulty before (Constraint head left sense at right) after stop (row_fault left at right) (IsRowForm old.variables left right) (may_constraint before old head left sense at right s free p q)
+    (λ f e. sym (row_then left at right (limit_fault (rows_of before) TooManyRows at)) ∙ first_of_first _ _ _ e) answer
 
-pub column_refused : (old after : Built) (head : Head) (end : Place) (z : Rational) (new : LinearSystem) (met : RowFault) (stop : ParseStop) → IsSmall old → is_taken old head.name ≡ false → ColumnAnswer old.system (column_of false (record { low = Some z; high = None })) new (Err met) → stop ≡ stop_of_row head.at met → (before : Model) → Stands before old → AddAnswer before (Variable head end) after (Err stop)
+pub column_refused : (old after : Built) (head : Head) (z : Rational) (new : LinearSystem) (met : RowFault) (stop : PlainStop) → IsSmall old → is_taken old head.name ≡ false → ColumnAnswer old.system (column_of false (record { low = Some z; high = None })) new (Err met) → stop ≡ stop_of_row head.at met → (before : Model) → Stands before old → AddAnswer before (Variable head) after (Err stop)
 unfolding number_fault
-column_refused old after head end z new fault.TooManyColumns stop small free answer e before s =
-    subst (λ (t : ParseStop). AddAnswer before (Variable head end) after (Err t)) (sym e)
+column_refused old after head z new fault.TooManyColumns stop small free answer e before s =
+    subst (λ (t : PlainStop). AddAnswer before (Variable head) after (Err t)) (sym e)
     (numbers (fault_at TooManyColumns head.at) (record { name_new = is_new before old head.name s free; parts = tt }) (is_full (length (variables before)) TooManyColumns head.at (omega (arith, answer.0, small.columns, ap length s.names))))
-column_refused old after head end z new fault.TooManyRows stop small free answer e before s = absurd answer
-column_refused old after head end z new fault.Memory stop small free answer e before s = subst (λ (t : ParseStop). AddAnswer before (Variable head end) after (Err t)) (sym e) tt
+column_refused old after head z new fault.TooManyRows stop small free answer e before s = absurd answer
+column_refused old after head z new fault.Memory stop small free answer e before s = subst (λ (t : PlainStop). AddAnswer before (Variable head) after (Err t)) (sym e) tt
 
-pub row_refused : (old after : Built) (head : Head) (colon : Place) (left : Sum) (sense : Sense) (at : Place) (right : Sum) (end : Place) (form : LinearForm) (row : GivenRow) (new : LinearSystem) (met : RowFault) (stop : ParseStop) → is_taken old head.name ≡ false → SuitsSum old.variables left → SuitsSum old.variables right → MadeAnswer (row_fault left at right) (IsRowForm old.variables left right) (Ok form) → RowAdded old.system row new (Err met) → stop ≡ stop_of_row at met → (before : Model) → Stands before old → AddAnswer before (Constraint head colon left sense at right end) after (Err stop)
+pub row_refused : (old after : Built) (head : Head) (left : Sum) (sense : Sense) (at : Place) (right : Sum) (form : LinearForm) (row : GivenRow) (new : LinearSystem) (met : RowFault) (stop : PlainStop) → is_taken old head.name ≡ false → SuitsSum old.variables left → SuitsSum old.variables right → MadeAnswer (row_fault left at right) (IsRowForm old.variables left right) (Ok form) → RowAdded old.system row new (Err met) → stop ≡ stop_of_row at met → (before : Model) → Stands before old → AddAnswer before (Constraint head left sense at right) after (Err stop)
 unfolding number_fault
-row_refused old after head colon left sense at right end form row new fault.TooManyRows stop free p q made answer e before s =
+row_refused old after head left sense at right form row new fault.TooManyRows stop free p q made answer e before s =
     let counted = rows_counted (variables before ++ []) 0 before old.system.rows (s.rows []) in
-    subst (λ (t : ParseStop). AddAnswer before (Constraint head colon left sense at right end) after (Err t)) (sym e)
-    (numbers (fault_at TooManyRows at) (may_constraint before old head colon left sense at right end s free p q)
-    (sym (row_then left at right (limit_fault (rows_of before) TooManyRows at)) ∙ or_else_second _ _ _ made.0 (is_full (rows_of before) TooManyRows at (omega (arith, answer.0, counted)))))
-row_refused old after head colon left sense at right end form row new fault.TooManyColumns stop free p q made answer e before s = absurd answer
-row_refused old after head colon left sense at right end form row new fault.Memory stop free p q made answer e before s =
-    subst (λ (t : ParseStop). AddAnswer before (Constraint head colon left sense at right end) after (Err t)) (sym e) tt
+    subst (λ (t : PlainStop). AddAnswer before (Constraint head left sense at right) after (Err t)) (sym e)
+    (numbers (fault_at TooManyRows at) (may_constraint before old head left sense at right s free p q)
+    (sym (row_then left at right (limit_fault (rows_of before) TooManyRows at)) ∙ first_of_second _ _ _ made.0 (is_full (rows_of before) TooManyRows at (omega (arith, answer.0, counted)))))
+row_refused old after head left sense at right form row new fault.TooManyColumns stop free p q made answer e before s = absurd answer
+row_refused old after head left sense at right form row new fault.Memory stop free p q made answer e before s =
+    subst (λ (t : PlainStop). AddAnswer before (Constraint head left sense at right) after (Err t)) (sym e) tt

@@ -11,9 +11,10 @@ use Rattle.zim_rational.specs.Rational.{Rational, one, plus, negate, times, tota
 use Rattle.zim_rational.proofs.Ring.{times_one, negate_times}
 use Rattle.zim_fraction.specs.Limit.{is_sum_within}
 use Rattle.zim_linear.specs.Forms.{Term, LinearForm, Assignment, sum_at}
+use Rattle.zim_rows.specs.Scaled.{first_of}
 use Rattle.zim_plain.specs.Statements.{Text, Item, Constant, Multiple, Further, SignAt, Sum, items_of}
 use Rattle.zim_plain.specs.Meaning.{signed, coefficient_number, factor_number, item_number, sum_number}
-use Rattle.zim_plain.specs.Faults.{are_alike, amount, amount_among, sums_fault, or_else, past_unless}
+use Rattle.zim_plain.specs.Faults.{are_alike, amount, amount_among, sums_fault, past_unless}
 use Rattle.zim_plain.specs.Systems.{place_of, column_of_name, by_column}
 use Rattle.zim_plain.specs.Parts.{part_term, item_column, item_term, part_of, with_one, sum_of_column, parts_fault}
 use Rattle.zim_plain.specs.Sides.{IsDeclared}
@@ -81,7 +82,7 @@ unfolding sums_fault parts_fault
 fault_column names before [] h k = refl
 fault_column names before (f ∷ fs) h k =
     let i : Bool × Item = (f.sign.negative, f.item) in
-    ap₂ or_else
+    ap₂ first_of
     (ap (λ (q : Rational). past_unless (is_sum_within q (amount i)) f.sign.place) (amount_column names f.item before rational.zero k.0 h))
     (fault_column names (before ++ i ∷ []) fs (declared_push before i h k.0) k.1
     ∙ ap (λ (ts : List Term). parts_fault ts (map (part_of names) fs)) (map-append (item_term names) before (i ∷ [])))

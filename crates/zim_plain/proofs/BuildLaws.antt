@@ -23,16 +23,17 @@ use Rattle.zim_rows.specs.declared.faults.RowFault.{RowFault}
 use Rattle.zim_rows.specs.declared.faults.RowFault.TheVariants as fault
 use Rattle.zim_rows.specs.System as system
 use Rattle.zim_rows.specs.System.{LinearSystem, empty_system, row_of, with_column, with_row, ColumnAnswer, RowAdded}
-use Rattle.zim_plain.specs.declared.stop.ParseStop.{ParseStop}
-use Rattle.zim_plain.specs.declared.stop.ParseStop.TheVariants as parsing
+use Rattle.zim_rows.specs.Scaled.{first_of}
+use Rattle.zim_plain.specs.declared.stop.PlainStop.{PlainStop}
+use Rattle.zim_plain.specs.declared.stop.PlainStop.TheVariants as stopped
 use Rattle.zim_plain.specs.Statements.{Text, Head, Sum, Statement, Variable, Objective, Constraint, Model, head_of, items_of, name_of, variables}
 use Rattle.zim_plain.specs.Meaning.{sum_number}
 use Rattle.zim_plain.specs.Suits.{SuitsSum, is_objective, HasSuitedParts, MayFollow}
-use Rattle.zim_plain.specs.Faults.{fault_at, or_else, numbers_fault, adding_fault, difference_fault, rows_of, limit_fault, number_fault, HasFault, unsuited, numbers, IsFaultless, AreFaultless}
+use Rattle.zim_plain.specs.Faults.{fault_at, numbers_fault, adding_fault, difference_fault, rows_of, limit_fault, number_fault, HasFault, unsuited, numbers, IsFaultless, AreFaultless}
 use Rattle.zim_plain.specs.Systems.{by_column, IsForm, IsRowOf, AreRowsOf, objective_position, IsObjectiveOf, HasObjectiveOf, nonnegative}
 use Rattle.zim_plain.specs.Sides.{MadeAnswer, list_fault, IsListForm, row_fault, IsRowForm}
 use Rattle.zim_plain.specs.Build.{Built, other_names, Stands, IsSmall, stop_of_row, AddAnswer}
-use Rattle.zim_plain.proofs.Faulting.{or_else_assoc, or_else_first, or_else_second}
+use Rattle.zim_plain.proofs.Faulting.{first_of_assoc, first_of_first, first_of_second}
 use Rattle.zim_plain.proofs.SystemLaws.{variables-append}
 use Rattle.zim_plain.proofs.MoreNames.{list_more, row_more}
 
@@ -44,9 +45,9 @@ all_push P (y ∷ xs) x h p = (h.0, all_push P xs x h.1 p)
 
 other_names-append : (xs ys : Model) → other_names (xs ++ ys) ≡ other_names xs ++ other_names ys
 other_names-append [] ys = refl
-other_names-append (Variable head end ∷ xs) ys = other_names-append xs ys
-other_names-append (Objective maximize head colon sum end ∷ xs) ys = ap (λ vs. head.name ∷ vs) (other_names-append xs ys)
-other_names-append (Constraint head colon left sense at right end ∷ xs) ys = ap (λ vs. head.name ∷ vs) (other_names-append xs ys)
+other_names-append (Variable head ∷ xs) ys = other_names-append xs ys
+other_names-append (Objective maximize head sum ∷ xs) ys = ap (λ vs. head.name ∷ vs) (other_names-append xs ys)
+other_names-append (Constraint head left sense at right ∷ xs) ys = ap (λ vs. head.name ∷ vs) (other_names-append xs ys)
 
 -- ---- the order of statements
 
@@ -79,24 +80,24 @@ is_taken b name = list_any (pointwise nat_eq name) b.variables || list_any (poin
 
 name_is_new : (before : Model) (name : Text) → list_any (pointwise nat_eq name) (variables before) ≡ false → list_any (pointwise nat_eq name) (other_names before) ≡ false → IsNew before name
 name_is_new [] name v o = tt
-name_is_new (Variable head end ∷ before) name v o =
+name_is_new (Variable head ∷ before) name v o =
     let both = or_false _ _ v in (apart_name name head.name both.0, name_is_new before name both.1 o)
-name_is_new (Objective maximize head colon sum end ∷ before) name v o =
+name_is_new (Objective maximize head sum ∷ before) name v o =
     let both = or_false _ _ o in (apart_name name head.name both.0, name_is_new before name v both.1)
-name_is_new (Constraint head colon left sense at right end ∷ before) name v o =
+name_is_new (Constraint head left sense at right ∷ before) name v o =
     let both = or_false _ _ o in (apart_name name head.name both.0, name_is_new before name v both.1)
 
 no_variable : (before : Model) (name : Text) → IsNew before name → list_any (pointwise nat_eq name) (variables before) ≡ false
 no_variable [] name h = refl
-no_variable (Variable head end ∷ before) name h = false_or _ _ (name_apart name head.name h.0) (no_variable before name h.1)
-no_variable (Objective maximize head colon sum end ∷ before) name h = no_variable before name h.1
-no_variable (Constraint head colon left sense at right end ∷ before) name h = no_variable before name h.1
+no_variable (Variable head ∷ before) name h = false_or _ _ (name_apart name head.name h.0) (no_variable before name h.1)
+no_variable (Objective maximize head sum ∷ before) name h = no_variable before name h.1
+no_variable (Constraint head left sense at right ∷ before) name h = no_variable before name h.1
 
 no_other : (before : Model) (name : Text) → IsNew before name → list_any (pointwise nat_eq name) (other_names before) ≡ false
 no_other [] name h = refl
-no_other (Variable head end ∷ before) name h = no_other before name h.1
-no_other (Objective maximize head colon sum end ∷ before) name h = false_or _ _ (name_apart name head.name h.0) (no_other before name h.1)
-no_other (Constraint head colon left sense at right end ∷ before) name h = false_or _ _ (name_apart name head.name h.0) (no_other before name h.1)
+no_other (Variable head ∷ before) name h = no_other before name h.1
+no_other (Objective maximize head sum ∷ before) name h = false_or _ _ (name_apart name head.name h.0) (no_other before name h.1)
+no_other (Constraint head left sense at right ∷ before) name h = false_or _ _ (name_apart name head.name h.0) (no_other before name h.1)
 
 pub is_new : (before : Model) (b : Built) (name : Text) → Stands before b → is_taken b name ≡ false → IsNew before name
 is_new before b name s free =
@@ -120,18 +121,18 @@ HasNoObjective model = AllByRecursion (λ (s : Statement). is_objective s ≡ fa
 
 position-some : (at p : ℕ) (model : Model) → objective_position at model ≡ Some p → HasNoObjective model → ⊥
 position-some at p [] e h = cc
-position-some at p (Variable head end ∷ model) e h = position-some (at + 1) p model e h.1
-position-some at p (Objective maximize head colon sum end ∷ model) e h = let no : true ≡ false = h.0 in cc
-position-some at p (Constraint head colon left sense at' right end ∷ model) e h = position-some (at + 1) p model e h.1
+position-some at p (Variable head ∷ model) e h = position-some (at + 1) p model e h.1
+position-some at p (Objective maximize head sum ∷ model) e h = let no : true ≡ false = h.0 in cc
+position-some at p (Constraint head left sense at' right ∷ model) e h = position-some (at + 1) p model e h.1
 
 position-none : (at : ℕ) (model : Model) → objective_position at model ≡ None → HasNoObjective model
 position-none at [] e = tt
-position-none at (Variable head end ∷ model) e = (refl, position-none (at + 1) model e)
-position-none at (Objective maximize head colon sum end ∷ model) e = cc
-position-none at (Constraint head colon left sense at' right end ∷ model) e = (refl, position-none (at + 1) model e)
+position-none at (Variable head ∷ model) e = (refl, position-none (at + 1) model e)
+position-none at (Objective maximize head sum ∷ model) e = cc
+position-none at (Constraint head left sense at' right ∷ model) e = (refl, position-none (at + 1) model e)
 
-pub one_objective : (before : Model) (b : Built) (maximize : Bool) (head : Head) (colon : Place) (sum : Sum) (end : Place) → Stands before b → IsSome b.objective → ¬ MayFollow before (Objective maximize head colon sum end)
-one_objective before b maximize head colon sum end s some may = there b.objective s.position some
+pub one_objective : (before : Model) (b : Built) (maximize : Bool) (head : Head) (sum : Sum) → Stands before b → IsSome b.objective → ¬ MayFollow before (Objective maximize head sum)
+one_objective before b maximize head sum s some may = there b.objective s.position some
   where
     there : (o : Option ℕ) → o ≡ objective_position 0 before → IsSome o → ⊥
     there None is h = false≢true h
@@ -144,14 +145,14 @@ no_objective before b s none = position-none 0 before (sym s.position ∙ none_i
     none_is None h = refl
     none_is (Some p) h = absurd (true≢false h)
 
-pub unsuited_objective : (before : Model) (b : Built) (maximize : Bool) (head : Head) (colon : Place) (sum : Sum) (end : Place) → Stands before b → ¬ SuitsSum b.variables sum → ¬ MayFollow before (Objective maximize head colon sum end)
-unsuited_objective before b maximize head colon sum end s other may = other (subst (λ (ns : List Text). SuitsSum ns sum) (sym s.names) may.parts.0)
+pub unsuited_objective : (before : Model) (b : Built) (maximize : Bool) (head : Head) (sum : Sum) → Stands before b → ¬ SuitsSum b.variables sum → ¬ MayFollow before (Objective maximize head sum)
+unsuited_objective before b maximize head sum s other may = other (subst (λ (ns : List Text). SuitsSum ns sum) (sym s.names) may.parts.0)
 
-pub unsuited_left : (before : Model) (b : Built) (head : Head) (colon : Place) (left : Sum) (sense : Sense) (at : Place) (right : Sum) (end : Place) → Stands before b → ¬ SuitsSum b.variables left → ¬ MayFollow before (Constraint head colon left sense at right end)
-unsuited_left before b head colon left sense at right end s other may = other (subst (λ (ns : List Text). SuitsSum ns left) (sym s.names) may.parts.0)
+pub unsuited_left : (before : Model) (b : Built) (head : Head) (left : Sum) (sense : Sense) (at : Place) (right : Sum) → Stands before b → ¬ SuitsSum b.variables left → ¬ MayFollow before (Constraint head left sense at right)
+unsuited_left before b head left sense at right s other may = other (subst (λ (ns : List Text). SuitsSum ns left) (sym s.names) may.parts.0)
 
-pub unsuited_right : (before : Model) (b : Built) (head : Head) (colon : Place) (left : Sum) (sense : Sense) (at : Place) (right : Sum) (end : Place) → Stands before b → ¬ SuitsSum b.variables right → ¬ MayFollow before (Constraint head colon left sense at right end)
-unsuited_right before b head colon left sense at right end s other may = other (subst (λ (ns : List Text). SuitsSum ns right) (sym s.names) may.parts.1)
+pub unsuited_right : (before : Model) (b : Built) (head : Head) (left : Sum) (sense : Sense) (at : Place) (right : Sum) → Stands before b → ¬ SuitsSum b.variables right → ¬ MayFollow before (Constraint head left sense at right)
+unsuited_right before b head left sense at right s other may = other (subst (λ (ns : List Text). SuitsSum ns right) (sym s.names) may.parts.1)
 
 -- ---- limits
 
@@ -164,65 +165,65 @@ is_not_full count kind place l = ap (λ (b : Bool). cond b (Some (fault_at kind 
 -- there are as many rows as constraints
 pub rows_counted : (names : List Text) (at : ℕ) (model : Model) (rs : List GivenRow) → AreRowsOf names at model rs → length rs ≡ rows_of model
 rows_counted names at [] rs h = ap length h
-rows_counted names at (Variable head end ∷ model) rs h = rows_counted names (at + 1) model rs h
-rows_counted names at (Objective maximize head colon sum end ∷ model) rs h = rows_counted names (at + 1) model rs h
-rows_counted names at (Constraint head colon left sense at' right end ∷ model) [] h = absurd h
-rows_counted names at (Constraint head colon left sense at' right end ∷ model) (row ∷ rs) h = ap suc (rows_counted names (at + 1) model rs h.1)
+rows_counted names at (Variable head ∷ model) rs h = rows_counted names (at + 1) model rs h
+rows_counted names at (Objective maximize head sum ∷ model) rs h = rows_counted names (at + 1) model rs h
+rows_counted names at (Constraint head left sense at' right ∷ model) [] h = absurd h
+rows_counted names at (Constraint head left sense at' right ∷ model) (row ∷ rs) h = ap suc (rows_counted names (at + 1) model rs h.1)
 
 -- ---- what stays when a statement follows
 
 abbrev pub is_constraint : Statement → Bool
-is_constraint (Variable head end) = false
-is_constraint (Objective maximize head colon sum end) = false
-is_constraint (Constraint head colon left sense at right end) = true
+is_constraint (Variable head) = false
+is_constraint (Objective maximize head sum) = false
+is_constraint (Constraint head left sense at right) = true
 
 position-other : (at : ℕ) (before : Model) (s : Statement) → is_objective s ≡ false → objective_position at (before ++ s ∷ []) ≡ objective_position at before
-position-other at [] (Variable head end) e = refl
-position-other at [] (Objective maximize head colon sum end) e = cc
-position-other at [] (Constraint head colon left sense at' right end) e = refl
-position-other at (Variable head end ∷ before) s e = position-other (at + 1) before s e
-position-other at (Objective maximize head colon sum end ∷ before) s e = refl
-position-other at (Constraint head colon left sense at' right end ∷ before) s e = position-other (at + 1) before s e
+position-other at [] (Variable head) e = refl
+position-other at [] (Objective maximize head sum) e = cc
+position-other at [] (Constraint head left sense at' right) e = refl
+position-other at (Variable head ∷ before) s e = position-other (at + 1) before s e
+position-other at (Objective maximize head sum ∷ before) s e = refl
+position-other at (Constraint head left sense at' right ∷ before) s e = position-other (at + 1) before s e
 
-position-first : (at n : ℕ) (before : Model) (maximize : Bool) (head : Head) (colon : Place) (sum : Sum) (end : Place) → at + length before ≡ n → HasNoObjective before → objective_position at (before ++ Objective maximize head colon sum end ∷ []) ≡ Some n
-position-first at n [] maximize head colon sum end e h = let same : at ≡ n = omega arith in ap Some same
-position-first at n (Variable other stop ∷ before) maximize head colon sum end e h = position-first (at + 1) n before maximize head colon sum end (omega arith) h.1
-position-first at n (Objective aim other sign list stop ∷ before) maximize head colon sum end e h = let no : true ≡ false = h.0 in cc
-position-first at n (Constraint other sign left sense at' right stop ∷ before) maximize head colon sum end e h = position-first (at + 1) n before maximize head colon sum end (omega arith) h.1
+position-first : (at n : ℕ) (before : Model) (maximize : Bool) (head : Head) (sum : Sum) → at + length before ≡ n → HasNoObjective before → objective_position at (before ++ Objective maximize head sum ∷ []) ≡ Some n
+position-first at n [] maximize head sum e h = let same : at ≡ n = omega arith in ap Some same
+position-first at n (Variable other ∷ before) maximize head sum e h = position-first (at + 1) n before maximize head sum (omega arith) h.1
+position-first at n (Objective aim other list ∷ before) maximize head sum e h = let no : true ≡ false = h.0 in cc
+position-first at n (Constraint other left sense at' right ∷ before) maximize head sum e h = position-first (at + 1) n before maximize head sum (omega arith) h.1
 
 objective-other : (names : List Text) (before : Model) (s : Statement) (o : Option rows.Objective) → is_objective s ≡ false → HasObjectiveOf names before o → HasObjectiveOf names (before ++ s ∷ []) o
-objective-other names [] (Variable head end) o e h = h
-objective-other names [] (Objective maximize head colon sum end) o e h = cc
-objective-other names [] (Constraint head colon left sense at right end) o e h = h
-objective-other names (Variable head end ∷ before) s o e h = objective-other names before s o e h
-objective-other names (Objective maximize head colon sum end ∷ before) s None e h = absurd h
-objective-other names (Objective maximize head colon sum end ∷ before) s (Some o) e h = h
-objective-other names (Constraint head colon left sense at right end ∷ before) s o e h = objective-other names before s o e h
+objective-other names [] (Variable head) o e h = h
+objective-other names [] (Objective maximize head sum) o e h = cc
+objective-other names [] (Constraint head left sense at right) o e h = h
+objective-other names (Variable head ∷ before) s o e h = objective-other names before s o e h
+objective-other names (Objective maximize head sum ∷ before) s None e h = absurd h
+objective-other names (Objective maximize head sum ∷ before) s (Some o) e h = h
+objective-other names (Constraint head left sense at right ∷ before) s o e h = objective-other names before s o e h
 
-objective-first : (names : List Text) (before : Model) (maximize : Bool) (head : Head) (colon : Place) (sum : Sum) (end : Place) (o : rows.Objective) → HasNoObjective before → IsObjectiveOf names maximize head.at sum o → HasObjectiveOf names (before ++ Objective maximize head colon sum end ∷ []) (Some o)
-objective-first names [] maximize head colon sum end o h is = is
-objective-first names (Variable other stop ∷ before) maximize head colon sum end o h is = objective-first names before maximize head colon sum end o h.1 is
-objective-first names (Objective aim other sign list stop ∷ before) maximize head colon sum end o h is = let no : true ≡ false = h.0 in cc
-objective-first names (Constraint other sign left sense at right stop ∷ before) maximize head colon sum end o h is = objective-first names before maximize head colon sum end o h.1 is
+objective-first : (names : List Text) (before : Model) (maximize : Bool) (head : Head) (sum : Sum) (o : rows.Objective) → HasNoObjective before → IsObjectiveOf names maximize head.at sum o → HasObjectiveOf names (before ++ Objective maximize head sum ∷ []) (Some o)
+objective-first names [] maximize head sum o h is = is
+objective-first names (Variable other ∷ before) maximize head sum o h is = objective-first names before maximize head sum o h.1 is
+objective-first names (Objective aim other list ∷ before) maximize head sum o h is = let no : true ≡ false = h.0 in cc
+objective-first names (Constraint other left sense at right ∷ before) maximize head sum o h is = objective-first names before maximize head sum o h.1 is
 
 rows-other : (names : List Text) (at : ℕ) (before : Model) (s : Statement) (rs : List GivenRow) → is_constraint s ≡ false → AreRowsOf names at before rs → AreRowsOf names at (before ++ s ∷ []) rs
-rows-other names at [] (Variable head end) rs e h = h
-rows-other names at [] (Objective maximize head colon sum end) rs e h = h
-rows-other names at [] (Constraint head colon left sense at' right end) rs e h = cc
-rows-other names at (Variable head end ∷ before) s rs e h = rows-other names (at + 1) before s rs e h
-rows-other names at (Objective maximize head colon sum end ∷ before) s rs e h = rows-other names (at + 1) before s rs e h
-rows-other names at (Constraint head colon left sense at' right end ∷ before) s [] e h = absurd h
-rows-other names at (Constraint head colon left sense at' right end ∷ before) s (row ∷ rs) e h = (h.0, rows-other names (at + 1) before s rs e h.1)
+rows-other names at [] (Variable head) rs e h = h
+rows-other names at [] (Objective maximize head sum) rs e h = h
+rows-other names at [] (Constraint head left sense at' right) rs e h = cc
+rows-other names at (Variable head ∷ before) s rs e h = rows-other names (at + 1) before s rs e h
+rows-other names at (Objective maximize head sum ∷ before) s rs e h = rows-other names (at + 1) before s rs e h
+rows-other names at (Constraint head left sense at' right ∷ before) s [] e h = absurd h
+rows-other names at (Constraint head left sense at' right ∷ before) s (row ∷ rs) e h = (h.0, rows-other names (at + 1) before s rs e h.1)
 
-rows-push : (names : List Text) (at n : ℕ) (before : Model) (head : Head) (colon : Place) (left : Sum) (sense : Sense) (place : Place) (right : Sum) (end : Place) (rs : List GivenRow) (row : GivenRow) → at + length before ≡ n → AreRowsOf names at before rs → IsRowOf names n left sense place right row → AreRowsOf names at (before ++ Constraint head colon left sense place right end ∷ []) (rs ++ row ∷ [])
-rows-push names at n [] head colon left sense place right end [] row e h is =
+rows-push : (names : List Text) (at n : ℕ) (before : Model) (head : Head) (left : Sum) (sense : Sense) (place : Place) (right : Sum) (rs : List GivenRow) (row : GivenRow) → at + length before ≡ n → AreRowsOf names at before rs → IsRowOf names n left sense place right row → AreRowsOf names at (before ++ Constraint head left sense place right ∷ []) (rs ++ row ∷ [])
+rows-push names at n [] head left sense place right [] row e h is =
     let same : n ≡ at = omega arith in (subst (λ (k : ℕ). IsRowOf names k left sense place right row) same is, refl)
-rows-push names at n [] head colon left sense place right end (first ∷ rs) row e h is = cc
-rows-push names at n (Variable other stop ∷ before) head colon left sense place right end rs row e h is = rows-push names (at + 1) n before head colon left sense place right end rs row (omega arith) h is
-rows-push names at n (Objective aim other sign list stop ∷ before) head colon left sense place right end rs row e h is = rows-push names (at + 1) n before head colon left sense place right end rs row (omega arith) h is
-rows-push names at n (Constraint other sign l s p r stop ∷ before) head colon left sense place right end [] row e h is = absurd h
-rows-push names at n (Constraint other sign l s p r stop ∷ before) head colon left sense place right end (first ∷ rs) row e h is =
-    (h.0, rows-push names (at + 1) n before head colon left sense place right end rs row (omega arith) h.1 is)
+rows-push names at n [] head left sense place right (first ∷ rs) row e h is = cc
+rows-push names at n (Variable other ∷ before) head left sense place right rs row e h is = rows-push names (at + 1) n before head left sense place right rs row (omega arith) h is
+rows-push names at n (Objective aim other list ∷ before) head left sense place right rs row e h is = rows-push names (at + 1) n before head left sense place right rs row (omega arith) h is
+rows-push names at n (Constraint other l s p r ∷ before) head left sense place right [] row e h is = absurd h
+rows-push names at n (Constraint other l s p r ∷ before) head left sense place right (first ∷ rs) row e h is =
+    (h.0, rows-push names (at + 1) n before head left sense place right rs row (omega arith) h.1 is)
 
 -- ---- no statement yet
 
@@ -292,10 +293,10 @@ with_constraint b name at form sense = record b {
   system = with_row b.system (made_row b at form sense);
 }
 
-pub stands_variable : (before : Model) (b : Built) (head : Head) (end : Place) → Stands before b → IsNew before head.name → length (variables before) < 1000000 → Stands (before ++ Variable head end ∷ []) (with_variable b head.name)
+pub stands_variable : (before : Model) (b : Built) (head : Head) → Stands before b → IsNew before head.name → length (variables before) < 1000000 → Stands (before ++ Variable head ∷ []) (with_variable b head.name)
 unfolding number_fault
-stands_variable before b head end s new few =
-    let v : Statement = Variable head end in
+stands_variable before b head s new few =
+    let v : Statement = Variable head in
     record {
       faultless = faultless_push [] before v s.faultless (record { follows = record { name_new = new; parts = tt }; numbers = is_not_full (length (variables before)) TooManyColumns head.at few });
       names = ap (λ (vs : List Text). vs ++ head.name ∷ []) s.names ∙ sym (variables-append before (v ∷ []));
@@ -309,10 +310,10 @@ stands_variable before b head end s new few =
       objective = λ more. objective_step before v more b.system.objective refl (s.objective (head.name ∷ more));
     }
 
-pub stands_objective : (before : Model) (b : Built) (maximize : Bool) (head : Head) (colon : Place) (sum : Sum) (end : Place) (form : LinearForm) → Stands before b → MayFollow before (Objective maximize head colon sum end) → list_fault sum ≡ None → IsListForm (variables before) sum form → Stands (before ++ Objective maximize head colon sum end ∷ []) (with_objective b maximize head.name head.at form)
+pub stands_objective : (before : Model) (b : Built) (maximize : Bool) (head : Head) (sum : Sum) (form : LinearForm) → Stands before b → MayFollow before (Objective maximize head sum) → list_fault sum ≡ None → IsListForm (variables before) sum form → Stands (before ++ Objective maximize head sum ∷ []) (with_objective b maximize head.name head.at form)
 unfolding number_fault
-stands_objective before b maximize head colon sum end form s may none is =
-    let o : Statement = Objective maximize head colon sum end in
+stands_objective before b maximize head sum form s may none is =
+    let o : Statement = Objective maximize head sum in
     let free : HasNoObjective before = may.parts.1 in
     let position : length before ≡ length b.statements = sym (ap length s.statements ∙ length-map before name_of) in
     record {
@@ -320,11 +321,11 @@ stands_objective before b maximize head colon sum end form s may none is =
       names = names_same before o b.variables refl s.names;
       others = ap (λ (vs : List Text). vs ++ head.name ∷ []) s.others ∙ sym (other_names-append before (o ∷ []));
       statements = statements_step before o b.statements s.statements;
-      position = sym (position-first 0 (length b.statements) before maximize head colon sum end (omega (arith, position)) free);
+      position = sym (position-first 0 (length b.statements) before maximize head sum (omega (arith, position)) free);
       columns = columns_step before o b.system.columns refl s.columns;
       rows = λ more. rows_step before o more b.system.rows refl (s.rows more);
       objective = λ more.
-          objective-first (variables (before ++ o ∷ []) ++ more) before maximize head colon sum end _ free
+          objective-first (variables (before ++ o ∷ []) ++ more) before maximize head sum _ free
           (record {
             aim = refl;
             place_is = refl;
@@ -333,24 +334,24 @@ stands_objective before b maximize head colon sum end form s may none is =
     }
 
 -- the faults of a constraint are those of its row, and then that of the limit
-pub row_then : (left : Sum) (at : Place) (right : Sum) (last : Option Fault) → or_else (row_fault left at right) last ≡ or_else (numbers_fault left) (or_else (numbers_fault right) (or_else (adding_fault left) (or_else (adding_fault right) (or_else (difference_fault left at right) last))))
+pub row_then : (left : Sum) (at : Place) (right : Sum) (last : Option Fault) → first_of (row_fault left at right) last ≡ first_of (numbers_fault left) (first_of (numbers_fault right) (first_of (adding_fault left) (first_of (adding_fault right) (first_of (difference_fault left at right) last))))
 row_then left at right last =
-    or_else_assoc (numbers_fault left) _ last
-    ∙ ap (or_else (numbers_fault left))
-    (or_else_assoc (numbers_fault right) _ last
-    ∙ ap (or_else (numbers_fault right))
-    (or_else_assoc (adding_fault left) _ last ∙ ap (or_else (adding_fault left)) (or_else_assoc (adding_fault right) (difference_fault left at right) last)))
+    first_of_assoc (numbers_fault left) _ last
+    ∙ ap (first_of (numbers_fault left))
+    (first_of_assoc (numbers_fault right) _ last
+    ∙ ap (first_of (numbers_fault right))
+    (first_of_assoc (adding_fault left) _ last ∙ ap (first_of (adding_fault left)) (first_of_assoc (adding_fault right) (difference_fault left at right) last)))
 
-pub stands_constraint : (before : Model) (b : Built) (head : Head) (colon : Place) (left : Sum) (sense : Sense) (at : Place) (right : Sum) (end : Place) (form : LinearForm) → Stands before b → MayFollow before (Constraint head colon left sense at right end) → length b.system.rows < 1000000 → row_fault left at right ≡ None → IsRowForm (variables before) left right form → Stands (before ++ Constraint head colon left sense at right end ∷ []) (with_constraint b head.name at form sense)
+pub stands_constraint : (before : Model) (b : Built) (head : Head) (left : Sum) (sense : Sense) (at : Place) (right : Sum) (form : LinearForm) → Stands before b → MayFollow before (Constraint head left sense at right) → length b.system.rows < 1000000 → row_fault left at right ≡ None → IsRowForm (variables before) left right form → Stands (before ++ Constraint head left sense at right ∷ []) (with_constraint b head.name at form sense)
 unfolding number_fault
-stands_constraint before b head colon left sense at right end form s may few none is =
-    let c : Statement = Constraint head colon left sense at right end in
+stands_constraint before b head left sense at right form s may few none is =
+    let c : Statement = Constraint head left sense at right in
     let position : length before ≡ length b.statements = sym (ap length s.statements ∙ length-map before name_of) in
     let counted : length b.system.rows ≡ rows_of before = rows_counted (variables before ++ []) 0 before b.system.rows (s.rows []) in
     record {
       faultless = faultless_push [] before c s.faultless (record {
         follows = may;
-        numbers = sym (row_then left at right (limit_fault (rows_of before) TooManyRows at)) ∙ or_else_second _ _ _ none (is_not_full (rows_of before) TooManyRows at (omega arith));
+        numbers = sym (row_then left at right (limit_fault (rows_of before) TooManyRows at)) ∙ first_of_second _ _ _ none (is_not_full (rows_of before) TooManyRows at (omega arith));
       });
       names = names_same before c b.variables refl s.names;
       others = ap (λ (vs : List Text). vs ++ head.name ∷ []) s.others ∙ sym (other_names-append before (c ∷ []));
@@ -358,7 +359,7 @@ stands_constraint before b head colon left sense at right end form s may few non
       position = s.position ∙ sym (position-other 0 before c refl);
       columns = columns_step before c b.system.columns refl s.columns;
       rows = λ more.
-          rows-push (variables (before ++ c ∷ []) ++ more) 0 (length b.statements) before head colon left sense at right end b.system.rows (made_row b at form sense) (omega (arith, position))
+          rows-push (variables (before ++ c ∷ []) ++ more) 0 (length b.statements) before head left sense at right b.system.rows (made_row b at form sense) (omega (arith, position))
           (subst (λ (ns : List Text). AreRowsOf ns 0 before b.system.rows) (sym (names_step before c more)) (s.rows more))
           (record {
             statement = refl;

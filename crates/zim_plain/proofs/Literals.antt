@@ -18,11 +18,12 @@ use Rattle.zim_fraction.specs.Answers.{number_answer, quotient_answer}
 use Rattle.zim_fraction.proofs.AnswerLemmas.{quotient_answer_some}
 use Rattle.zim_decimal.specs.Literal.{digits_of, significand, power_of_ten, scaled, value_answer, is_near, scaled_answer, literal_answer}
 use Rattle.zim_decimal.proofs.DigitLemmas.{ten_at_least}
+use Rattle.zim_rows.specs.Scaled.{first_of}
 use Rattle.zim_plain.specs.Statements.{Text, Literal, Divisor, Coefficient, Factor, Item, Constant, Multiple}
 use Rattle.zim_plain.specs.Meaning.{literal_number, coefficient_number, factor_number, signed}
-use Rattle.zim_plain.specs.Faults.{fault_at, past_unless, or_else, literal_fault, divisor_fault, coefficient_fault, item_fault, amount}
+use Rattle.zim_plain.specs.Faults.{fault_at, past_unless, literal_fault, divisor_fault, coefficient_fault, item_fault, amount}
 use Rattle.zim_plain.proofs.Limits.{zero_is_number, one_is_number, negate_is_number}
-use Rattle.zim_plain.proofs.Faulting.{or_else_none, or_else_second, past_none, past_some}
+use Rattle.zim_plain.proofs.Faulting.{first_of_none, first_of_second, past_none, past_some}
 
 -- ---- digits times a power of ten
 
@@ -105,11 +106,11 @@ number_of_literal literal none = by (literal_answer literal.text) refl
     by (Err p) is = let no : Some (fault_at Past literal.place) ≡ None = sym (literal_faulty literal p (sym is)) ∙ none in cc
 
 pub number_of_coefficient : (c : Coefficient) → coefficient_fault c ≡ None → IsTrue (is_number (coefficient_number c))
-number_of_coefficient c none = by c.divisor ((or_else_none _ _ none).1)
+number_of_coefficient c none = by c.divisor ((first_of_none _ _ none).1)
   where
     by : (d : Option Divisor) → divisor_fault (literal_number c.number) d ≡ None → IsTrue (is_number (coefficient_number (record { number = c.number; divisor = d })))
-    by None e = number_of_literal c.number ((or_else_none _ _ none).0)
-    by (Some d) e = past_none _ _ ((or_else_none _ _ e).1)
+    by None e = number_of_literal c.number ((first_of_none _ _ none).0)
+    by (Some d) e = past_none _ _ ((first_of_none _ _ e).1)
 
 signed_number : (negative : Bool) (q : Rational) → IsTrue (is_number q) → IsTrue (is_number (signed negative q))
 signed_number true q h = negate_is_number q h
@@ -135,7 +136,7 @@ quotient_past a b f some e = past_by (is_number (over a b)) (over a b) f (e ∙ 
 pub divisor_past : (a b : Rational) (f : NumFault) (d : Divisor) → b ≡ literal_number d.literal → literal_number d.literal ≢ rational.zero → literal_fault d.literal ≡ None → Err f ≡ quotient_answer a b → divisor_fault a (Some d) ≡ Some (fault_at Past d.slash)
 divisor_past a b f d is some none e =
     let past = quotient_past a (literal_number d.literal) f some (e ∙ ap (quotient_answer a) is) in
-    or_else_second _ _ _ none (past_some _ d.slash past)
+    first_of_second _ _ _ none (past_some _ d.slash past)
 
 -- ---- a literal that is 0
 

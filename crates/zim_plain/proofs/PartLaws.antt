@@ -17,16 +17,17 @@ use Rattle.zim_linear.specs.Multiples.{HaveProductsWithin, IsMultipleWithin, IsM
 use Rattle.zim_linear.specs.declared.faults.LinFault.{LinFault}
 use Rattle.zim_linear.specs.declared.faults.LinFault.TheVariants.{Past, Memory}
 use Rattle.zim_linear.proofs.FormLemmas.{sum_at_none, sum_at_more, sum_at_append}
+use Rattle.zim_rows.specs.Scaled.{first_of}
 use Rattle.zim_plain.specs.declared.parts.Part.{Part}
 use Rattle.std.specs.Global.{Vec}
 use Rattle.zim_plain.specs.declared.parts.Side.{Side}
 use Rattle.zim_plain.specs.declared.parts.Side.TheVariants.{Known, Parts}
-use Rattle.zim_plain.specs.declared.stop.ParseStop.{ParseStop}
+use Rattle.zim_plain.specs.declared.stop.PlainStop.{PlainStop}
 use Rattle.zim_plain.specs.Sides.{MadeAnswer, IsSide, side_fault, IsSideForm}
-use Rattle.zim_plain.specs.Faults.{fault_at, or_else, past_unless}
+use Rattle.zim_plain.specs.Faults.{fault_at, past_unless}
 use Rattle.zim_plain.specs.Parts.{part_term, with_one, sum_of_column, parts_fault, parts_number, coefficient_in, coefficient_at, AreNumbers, IsPart, IsPartUpTo, IsFormOf, PartFormAnswer, IsAdded, AddPartAnswer}
 use Rattle.zim_plain.proofs.Limits.{zero_is_number, one_is_number, sum_with_zero}
-use Rattle.zim_plain.proofs.Faulting.{none_past, past_some, or_else_second, or_else_first}
+use Rattle.zim_plain.proofs.Faulting.{none_past, past_some, first_of_second, first_of_first}
 use Rattle.zim_plain.proofs.Coefficients.{coefficient_is, coefficient_plus, constant_probe, from_one, sum_within, within_sum, sum_are_numbers}
 
 -- ---- the number of a part
@@ -218,7 +219,7 @@ add_step parts old new rest more part a e added =
       whole = a.whole ∙ ap (λ (ps : List Part). a.before ++ ps) e ∙ sym (append_assoc a.before (part ∷ []) more);
       fault =
           a.fault ∙ ap (parts_fault (map part_term a.before)) e
-          ∙ or_else_second _ _ _ (none_past _ part.place within) (ap (λ (ts : List Term). parts_fault ts more) (sym (map-append part_term a.before (part ∷ []))));
+          ∙ first_of_second _ _ _ (none_past _ part.place within) (ap (λ (ts : List Term). parts_fault ts more) (sym (map-append part_term a.before (part ∷ []))));
       form_is = record {
         is = λ x. added.is x ∙ ap (λ (v : Rational). plus v (parts_number (part ∷ []) x)) (a.form_is.is x) ∙ sym (parts_number-append a.before part x);
         terms = added.terms;
@@ -233,7 +234,7 @@ unfolding parts_fault
 add_past parts old rest more part fault a e past is =
     let k : ℕ = unwrap_or part.column 0 in
     a.fault ∙ ap (parts_fault (map part_term a.before)) e
-    ∙ or_else_first _ _ _ (past_some _ part.place (λ t. past (subst (λ (c : Rational). IsTrue (is_sum_within c part.amount)) (sym (so_far a.before old k a.form_is)) t)))
+    ∙ first_of_first _ _ _ (past_some _ part.place (λ t. past (subst (λ (c : Rational). IsTrue (is_sum_within c part.amount)) (sym (so_far a.before old k a.form_is)) t)))
     ∙ ap Some (sym is)
 
 pub add_end : (parts : List Part) (form : LinearForm) (rest : List Part) → IsAdding parts form rest → rest ≡ [] → (parts_fault [] parts ≡ None) × IsFormOf parts (parts_number parts) form
@@ -257,7 +258,7 @@ known_form side q form is e f =
     subst (λ (s : Side). (side_fault s ≡ None) × IsSideForm s form) (sym e)
     (refl, subst (IsFormOf [] (λ x. q)) (sym f) (constant_form q number))
 
-pub parts_have_form : (side : Side) (parts : Vec Part) (items : List Part) (r : Result LinearForm ParseStop) → side ≡ Parts parts → items ≡ parts.items → MadeAnswer (parts_fault [] items) (IsFormOf items (parts_number items)) r → MadeAnswer (side_fault side) (IsSideForm side) r
+pub parts_have_form : (side : Side) (parts : Vec Part) (items : List Part) (r : Result LinearForm PlainStop) → side ≡ Parts parts → items ≡ parts.items → MadeAnswer (parts_fault [] items) (IsFormOf items (parts_number items)) r → MadeAnswer (side_fault side) (IsSideForm side) r
 parts_have_form side parts items r e f answer =
     subst (λ (s : Side). MadeAnswer (side_fault s) (IsSideForm s) r) (sym e)
     (subst (λ (ps : List Part). MadeAnswer (parts_fault [] ps) (IsFormOf ps (parts_number ps)) r) f answer)

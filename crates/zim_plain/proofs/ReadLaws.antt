@@ -13,18 +13,19 @@ use Rattle.zim_fraction.specs.Limit.{is_number, is_sum_within}
 use Rattle.zim_fraction.specs.Answers.{sum_answer}
 use Rattle.zim_fraction.specs.declared.fault.Past as fraction
 use Rattle.zim_linear.proofs.AnswerLemmas.{sum_ok, sum_past, sum_value}
+use Rattle.zim_rows.specs.Scaled.{first_of}
 use Rattle.zim_plain.specs.declared.parts.Part.{Part}
 use Rattle.zim_plain.specs.declared.statement.Further as code
 use Rattle.zim_plain.specs.Reader.{item_of, further_of}
 use Rattle.zim_plain.specs.Statements.{Text, Item, Constant, Multiple, Further, Sum, first_negative, items_of}
 use Rattle.zim_plain.specs.Meaning.{sum_number}
 use Rattle.zim_plain.specs.Suits.{SuitsItem, SuitsSum}
-use Rattle.zim_plain.specs.Faults.{fault_at, or_else, past_unless, item_fault, items_fault, has_name, any_has_name, names_variable, are_alike, amount, amount_among, constants_fault, numbers_fault, first_item}
+use Rattle.zim_plain.specs.Faults.{fault_at, past_unless, item_fault, items_fault, has_name, any_has_name, names_variable, are_alike, amount, amount_among, constants_fault, numbers_fault, first_item}
 use Rattle.zim_plain.specs.Systems.{column_of_name}
 use Rattle.zim_plain.specs.Parts.{item_column, part_at, part_of, IsPart}
 use Rattle.zim_plain.specs.Sides.{IsDeclared, SuitsNumbers, SuitOthers, ArePartsOf, PartAnswer, parts_numbers_fault}
 use Rattle.zim_plain.proofs.Limits.{sum_is_number}
-use Rattle.zim_plain.proofs.Faulting.{or_else_second, or_else_first, past_some, none_past}
+use Rattle.zim_plain.proofs.Faulting.{first_of_second, first_of_first, past_some, none_past}
 use Rattle.zim_plain.proofs.Literals.{number_of_amount}
 use Rattle.zim_plain.proofs.Amounts.{declared_place, column_behind}
 use Rattle.zim_plain.proofs.SuitLaws.{drop_item, drop_end, item_declared, item_numbers, sum_others, pair_of}
@@ -81,7 +82,7 @@ pub read_start : (names : List Text) (sum : Sum) (all : List code.Further) (plac
 read_start names sum all place negative first parts none others suits sign answer e f =
     let is : parts ≡ first ∷ [] = f ∙ ap (λ (ps : List Part). ps ++ first ∷ []) e in
     record {
-      fault = or_else_second _ _ _ answer.0 (ap items_fault (sym others));
+      fault = first_of_second _ _ _ answer.0 (ap items_fault (sym others));
       first = first;
       first_is = answer.1 ∙ ap₂ (λ (p : Place) (b : Bool). part_at names p b sum.first) (sym (ap (λ (p : Part). p.place) answer.1)) sign;
       parts_are = is;
@@ -105,7 +106,7 @@ read_step names sum all i f old new part r l e answer pushed =
     record {
       fault =
           r.fault ∙ ap (λ (fs : List code.Further). items_fault (map further_of fs)) (drop_item all i f l e)
-          ∙ or_else_second _ _ _ answer.0 refl;
+          ∙ first_of_second _ _ _ answer.0 refl;
       first = r.first;
       first_is = r.first_is;
       parts_are =
@@ -119,7 +120,7 @@ read_step names sum all i f old new part r l e answer pushed =
 pub read_stop : (names : List Text) (sum : Sum) (all : List code.Further) (i : ℕ) (f : code.Further) (parts : List Part) (fault : Fault) → IsReading names sum all i parts → i < length all → get_or all i f ≡ f → item_fault (item_of f.item) ≡ Some fault → parts_numbers_fault sum ≡ Some fault
 unfolding items_fault
 read_stop names sum all i f parts fault r l e met =
-    r.fault ∙ ap (λ (fs : List code.Further). items_fault (map further_of fs)) (drop_item all i f l e) ∙ or_else_first _ _ _ met
+    r.fault ∙ ap (λ (fs : List code.Further). items_fault (map further_of fs)) (drop_item all i f l e) ∙ first_of_first _ _ _ met
 
 pub read_end : (names : List Text) (sum : Sum) (all : List code.Further) (i : ℕ) (parts : List Part) → map further_of all ≡ sum.others → IsReading names sum all i parts → length all ≤ i → (parts_numbers_fault sum ≡ None) × ArePartsOf names sum parts × AllByRecursion IsPart parts
 unfolding items_fault
@@ -162,7 +163,7 @@ total_start sum all first suits others none faultless is =
       before = first_item sum;
       whole = ap (λ (fs : List Further). i ∷ map pair_of fs) (sym others);
       fault =
-          or_else_second _ _ _ faultless
+          first_of_second _ _ _ faultless
           (ap (λ (b : Bool). if b then items_fault sum.others else constants_fault (first_item sum) sum.others) none ∙ ap (constants_fault (first_item sum)) (sym others));
       total_is = λ item e. among_one item rational.zero i e constants.0 ∙ zero_plus (amount i) ∙ sym is;
       within = subst (λ (q : Rational). IsTrue (is_number q)) (sym is) (number_of_amount (first_negative sum.sign) sum.first faultless);
@@ -195,7 +196,7 @@ total_step sum all i f old next new t l e faultless is answer =
           ∙ sym (append_assoc t.before (k ∷ []) (map pair_of (map further_of (drop (i + 1) all))));
       fault =
           t.fault ∙ ap (λ (fs : List code.Further). constants_fault t.before (map further_of fs)) (drop_item all i f l e)
-          ∙ or_else_second _ _ _ faultless (or_else_second _ _ _ (none_past _ f.sign.place ok_there) refl);
+          ∙ first_of_second _ _ _ faultless (first_of_second _ _ _ (none_past _ f.sign.place ok_there) refl);
       total_is = λ item h.
           among_append item rational.zero t.before (k ∷ []) ∙ ap (λ (q : Rational). amount_among item q (k ∷ [])) (t.total_is item h)
           ∙ among_one item old k h constants.0 ∙ sym sum_is;
@@ -208,7 +209,7 @@ total_step sum all i f old next new t l e faultless is answer =
 pub total_stop : (sum : Sum) (all : List code.Further) (i : ℕ) (f : code.Further) (total : Rational) (fault : Fault) → IsTotalling sum all i total → i < length all → get_or all i f ≡ f → item_fault (item_of f.item) ≡ Some fault → numbers_fault sum ≡ Some fault
 unfolding constants_fault
 total_stop sum all i f total fault t l e met =
-    t.fault ∙ ap (λ (fs : List code.Further). constants_fault t.before (map further_of fs)) (drop_item all i f l e) ∙ or_else_first _ _ _ met
+    t.fault ∙ ap (λ (fs : List code.Further). constants_fault t.before (map further_of fs)) (drop_item all i f l e) ∙ first_of_first _ _ _ met
 
 pub total_past : (sum : Sum) (all : List code.Further) (i : ℕ) (f : code.Further) (total next : Rational) (p : fraction.Past) (fault : Fault) → IsTotalling sum all i total → i < length all → get_or all i f ≡ f → item_fault (item_of f.item) ≡ None → next ≡ amount (f.sign.negative, item_of f.item) → Err p ≡ sum_answer total next → fault ≡ fault_at Past f.sign.place → numbers_fault sum ≡ Some fault
 unfolding constants_fault
@@ -216,8 +217,8 @@ total_past sum all i f total next p fault t l e faultless is answer at =
     let k : Bool × Item = pair_of (further_of f) in
     let constants = next_constants all i f l e t.constants in
     t.fault ∙ ap (λ (fs : List code.Further). constants_fault t.before (map further_of fs)) (drop_item all i f l e)
-    ∙ or_else_second _ _ _ faultless
-    (or_else_first _ _ _ (past_some _ f.sign.place (λ ok.
+    ∙ first_of_second _ _ _ faultless
+    (first_of_first _ _ _ (past_some _ f.sign.place (λ ok.
     sum_past total next p answer
     (subst (λ (q : Rational). IsTrue (is_sum_within total q)) (sym is)
     (subst (λ (q : Rational). IsTrue (is_sum_within q (amount k))) (t.total_is k.1 constants.0) ok)))

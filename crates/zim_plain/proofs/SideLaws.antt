@@ -9,19 +9,20 @@ use Rattle.zim_rational.specs.Rational.{Rational, plus, minus, negate, total}
 use Rattle.zim_rational.proofs.Ring.{plus_assoc, plus_zero, zero_plus}
 use Rattle.zim_fraction.specs.Limit.{is_number, is_sum_within}
 use Rattle.zim_linear.specs.Forms.{Term, LinearForm, Assignment, AreTerms, AreColumns, number_at, sum_at}
+use Rattle.zim_rows.specs.Scaled.{first_of}
 use Rattle.zim_plain.specs.declared.parts.Part.{Part}
 use Rattle.zim_plain.specs.declared.parts.Side.{Side}
 use Rattle.zim_plain.specs.declared.parts.Side.TheVariants.{Known, Parts}
 use Rattle.zim_plain.specs.Statements.{Text, Item, Constant, Multiple, Further, Sum, items_of}
 use Rattle.zim_plain.specs.Meaning.{item_number, sum_number, signed, coefficient_number}
 use Rattle.zim_plain.specs.Suits.{SuitsItem, SuitsSum}
-use Rattle.zim_plain.specs.Faults.{amount, amount_among, or_else, past_unless, item_fault, items_fault, has_name, any_has_name, names_variable, constants_fault, sums_fault, numbers_fault, adding_fault, first_item, amount_in}
+use Rattle.zim_plain.specs.Faults.{amount, amount_among, past_unless, item_fault, items_fault, has_name, any_has_name, names_variable, constants_fault, sums_fault, numbers_fault, adding_fault, first_item, amount_in}
 use Rattle.zim_plain.specs.Systems.{place_of, by_column, column_of_name, IsForm}
 use Rattle.zim_plain.specs.Parts.{part_term, item_column, item_term, part_at, part_of, with_one, sum_of_column, parts_fault, parts_number, coefficient_at, IsPart, IsPartUpTo, IsFormOf, AreNumbers}
 use Rattle.zim_plain.specs.Sides.{IsDeclared, ArePartsOf, IsSideOf, side_fault, side_number, side_parts, IsSideForm}
 use Rattle.zim_plain.proofs.Places.{at_place}
 use Rattle.zim_plain.proofs.Limits.{zero_with_sum}
-use Rattle.zim_plain.proofs.Faulting.{none_past, or_else_second}
+use Rattle.zim_plain.proofs.Faulting.{none_past, first_of_second}
 use Rattle.zim_plain.proofs.Coefficients.{coefficient_is}
 use Rattle.zim_plain.proofs.Amounts.{AreDeclared, declared_place, column_behind, amount_column, fault_column, sum_column}
 
@@ -66,7 +67,7 @@ parts_have_fault names sum [] suits each h = absurd h
 parts_have_fault names sum (first ∷ others) suits each h =
     let declared : AreDeclared names (items_of sum) = declared_sum names sum suits in
     let start : IsTrue (is_sum_within rational.zero first.amount) = zero_with_sum first.amount each.0.within in
-    or_else_second _ _ _ (none_past _ first.place start)
+    first_of_second _ _ _ (none_past _ first.place start)
     (ap₂ (λ (t : Term) (ps : List Part). parts_fault (t ∷ []) ps) (ap part_term h.0) h.1
     ∙ sym (fault_column names (first_item sum) sum.others (declared.0, tt) (declared_others names sum.others declared.1)))
 

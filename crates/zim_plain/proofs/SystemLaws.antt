@@ -38,9 +38,9 @@ use Rattle.zim_plain.proofs.SideLaws.{declared_sum}
 
 -- the lists of a statement name declared variables alone
 abbrev pub Declares : List Text → Statement → Type 0
-Declares names (Variable head end) = Unit {0}
-Declares names (Objective maximize head colon sum end) = AreDeclared names (items_of sum)
-Declares names (Constraint head colon left sense at right end) = AreDeclared names (items_of left) × AreDeclared names (items_of right)
+Declares names (Variable head) = Unit {0}
+Declares names (Objective maximize head sum) = AreDeclared names (items_of sum)
+Declares names (Constraint head left sense at right) = AreDeclared names (items_of left) × AreDeclared names (items_of right)
 
 abbrev pub DeclareAll : List Text → Model → Type 0
 DeclareAll names model = AllByRecursion (Declares names) model
@@ -59,22 +59,22 @@ items_more names more [] h = tt
 items_more names more (i ∷ is) h = (item_more names more i.1 h.0, items_more names more is h.1)
 
 declares_more : (names more : List Text) (s : Statement) → Declares names s → Declares (names ++ more) s
-declares_more names more (Variable head end) h = tt
-declares_more names more (Objective maximize head colon sum end) h = items_more names more (items_of sum) h
-declares_more names more (Constraint head colon left sense at right end) h = (items_more names more (items_of left) h.0, items_more names more (items_of right) h.1)
+declares_more names more (Variable head) h = tt
+declares_more names more (Objective maximize head sum) h = items_more names more (items_of sum) h
+declares_more names more (Constraint head left sense at right) h = (items_more names more (items_of left) h.0, items_more names more (items_of right) h.1)
 
 -- a statement that may follow others declares what it names
 pub declares_following : (before : Model) (s : Statement) → IsFaultless before s → Declares (variables before) s
-declares_following before (Variable head end) f = tt
-declares_following before (Objective maximize head colon sum end) f = declared_sum (variables before) sum f.follows.parts.0
-declares_following before (Constraint head colon left sense at right end) f =
+declares_following before (Variable head) f = tt
+declares_following before (Objective maximize head sum) f = declared_sum (variables before) sum f.follows.parts.0
+declares_following before (Constraint head left sense at right) f =
     (declared_sum (variables before) left f.follows.parts.0, declared_sum (variables before) right f.follows.parts.1)
 
 pub variables-append : (xs ys : Model) → variables (xs ++ ys) ≡ variables xs ++ variables ys
 variables-append [] ys = refl
-variables-append (Variable head end ∷ xs) ys = ap (λ vs. head.name ∷ vs) (variables-append xs ys)
-variables-append (Objective maximize head colon sum end ∷ xs) ys = variables-append xs ys
-variables-append (Constraint head colon left sense at right end ∷ xs) ys = variables-append xs ys
+variables-append (Variable head ∷ xs) ys = ap (λ vs. head.name ∷ vs) (variables-append xs ys)
+variables-append (Objective maximize head sum ∷ xs) ys = variables-append xs ys
+variables-append (Constraint head left sense at right ∷ xs) ys = variables-append xs ys
 
 declare_rest : (before model : Model) → AreFaultless before model → DeclareAll (variables (before ++ model)) model
 declare_rest before [] h = tt
@@ -161,12 +161,12 @@ row_kept names position values left sense at right row l h k is =
 
 rows_kept : (names : List Text) (position : ℕ) (values : meaning.Assignment) (model : Model) (rows : List GivenRow) → length values ≡ length names → DeclareAll names model → AreRowsOf names position model rows → KeepConstraints (assigned values) (map given_constraint rows) ↔ AllByRecursion (Holds names values) model
 rows_kept names position values [] rows l h are = (λ k. tt, λ k. subst (λ (rs : List GivenRow). KeepConstraints (assigned values) (map given_constraint rs)) (sym are) tt)
-rows_kept names position values (Variable head end ∷ model) rows l h are =
+rows_kept names position values (Variable head ∷ model) rows l h are =
     let rest = rows_kept names (position + 1) values model rows l h.1 are in (λ k. (tt, rest.0 k), λ k. rest.1 k.1)
-rows_kept names position values (Objective maximize head colon sum end ∷ model) rows l h are =
+rows_kept names position values (Objective maximize head sum ∷ model) rows l h are =
     let rest = rows_kept names (position + 1) values model rows l h.1 are in (λ k. (tt, rest.0 k), λ k. rest.1 k.1)
-rows_kept names position values (Constraint head colon left sense at right end ∷ model) [] l h are = absurd are
-rows_kept names position values (Constraint head colon left sense at right end ∷ model) (row ∷ rows) l h are =
+rows_kept names position values (Constraint head left sense at right ∷ model) [] l h are = absurd are
+rows_kept names position values (Constraint head left sense at right ∷ model) (row ∷ rows) l h are =
     let first = row_kept names position values left sense at right row l h.0.0 h.0.1 are.0 in
     let rest = rows_kept names (position + 1) values model rows l h.1 are.1 in
     (λ k. (first.0 k.0, rest.0 k.1), λ k. (first.1 k.0, rest.1 k.1))
@@ -196,10 +196,10 @@ points_are model system values plain is l =
 
 objective_is : (names : List Text) (values : meaning.Assignment) (model : Model) (objective : Option rows.Objective) → length values ≡ length names → DeclareAll names model → HasObjectiveOf names model objective → objective_number (assigned values) objective ≡ objective_among names values model
 objective_is names values [] objective l h has = ap (objective_number (assigned values)) has
-objective_is names values (Variable head end ∷ model) objective l h has = objective_is names values model objective l h.1 has
-objective_is names values (Objective maximize head colon sum end ∷ model) None l h has = absurd has
-objective_is names values (Objective maximize head colon sum end ∷ model) (Some o) l h has = has.form_is.is (assigned values) ∙ sum_value names values sum l h.0
-objective_is names values (Constraint head colon left sense at right end ∷ model) objective l h has = objective_is names values model objective l h.1 has
+objective_is names values (Variable head ∷ model) objective l h has = objective_is names values model objective l h.1 has
+objective_is names values (Objective maximize head sum ∷ model) None l h has = absurd has
+objective_is names values (Objective maximize head sum ∷ model) (Some o) l h has = has.form_is.is (assigned values) ∙ sum_value names values sum l h.0
+objective_is names values (Constraint head left sense at right ∷ model) objective l h has = objective_is names values model objective l h.1 has
 
 pub objective_value : (model : Model) (system : LinearSystem) (values : meaning.Assignment) → IsPlain model → IsSystemOf model system → IsAssignment model values → system_objective_at system values ≡ Obj model values
 objective_value model system values plain is l = objective_is (variables model) values model system.objective l (plain_declares model plain) is.objective
@@ -245,25 +245,25 @@ row_once names position left sense at right a b p q =
 
 rows_once : (names : List Text) (position : ℕ) (model : Model) (a b : List GivenRow) → AreRowsOf names position model a → AreRowsOf names position model b → a ≡ b
 rows_once names position [] a b p q = p ∙ sym q
-rows_once names position (Variable head end ∷ model) a b p q = rows_once names (position + 1) model a b p q
-rows_once names position (Objective maximize head colon sum end ∷ model) a b p q = rows_once names (position + 1) model a b p q
-rows_once names position (Constraint head colon left sense at right end ∷ model) [] b p q = absurd p
-rows_once names position (Constraint head colon left sense at right end ∷ model) (r ∷ a) [] p q = absurd q
-rows_once names position (Constraint head colon left sense at right end ∷ model) (r ∷ a) (s ∷ b) p q =
+rows_once names position (Variable head ∷ model) a b p q = rows_once names (position + 1) model a b p q
+rows_once names position (Objective maximize head sum ∷ model) a b p q = rows_once names (position + 1) model a b p q
+rows_once names position (Constraint head left sense at right ∷ model) [] b p q = absurd p
+rows_once names position (Constraint head left sense at right ∷ model) (r ∷ a) [] p q = absurd q
+rows_once names position (Constraint head left sense at right ∷ model) (r ∷ a) (s ∷ b) p q =
     ap₂ (λ (t : GivenRow) (ts : List GivenRow). t ∷ ts) (row_once names position left sense at right r s p.0 q.0) (rows_once names (position + 1) model a b p.1 q.1)
 
 objective_once : (names : List Text) (model : Model) (a b : Option rows.Objective) → HasObjectiveOf names model a → HasObjectiveOf names model b → a ≡ b
 objective_once names [] a b p q = p ∙ sym q
-objective_once names (Variable head end ∷ model) a b p q = objective_once names model a b p q
-objective_once names (Objective maximize head colon sum end ∷ model) None b p q = absurd p
-objective_once names (Objective maximize head colon sum end ∷ model) (Some o) None p q = absurd q
-objective_once names (Objective maximize head colon sum end ∷ model) (Some o) (Some r) p q =
+objective_once names (Variable head ∷ model) a b p q = objective_once names model a b p q
+objective_once names (Objective maximize head sum ∷ model) None b p q = absurd p
+objective_once names (Objective maximize head sum ∷ model) (Some o) None p q = absurd q
+objective_once names (Objective maximize head sum ∷ model) (Some o) (Some r) p q =
     let form : o.form ≡ r.form = one_form o.form r.form p.form_is.terms q.form_is.terms (λ x. p.form_is.is x ∙ sym (q.form_is.is x)) in
     ap Some (ap (λ (b : Bool). given b o.place o.form) (p.aim ∙ sym q.aim) ∙ ap (λ (place : Place). given r.maximize place o.form) (p.place_is ∙ sym q.place_is) ∙ ap (given r.maximize r.place) form)
   where
     given : Bool → Place → LinearForm → rows.Objective
     given maximize place form = record { maximize = maximize; place = place; form = form }
-objective_once names (Constraint head colon left sense at right end ∷ model) a b p q = objective_once names model a b p q
+objective_once names (Constraint head left sense at right ∷ model) a b p q = objective_once names model a b p q
 
 -- two systems of one model are one
 pub a_model_has_one_system : (model : Model) (a b : LinearSystem) → IsSystemOf model a → IsSystemOf model b → a ≡ b

@@ -1,9 +1,9 @@
--- What the program that was made of a model says, and how the reading of a model's tokens answers.
-use Rattle.std.specs.Prelude.{◌≡◌, ◌↔◌, ◌++◌, ◌∷◌, [], List, length, map, All, get_or, Some, None, Result, Ok, Err}
+-- What the program that was made of a model says, and how the reading of a model's trees answers.
+use Rattle.std.specs.Prelude.{◌≡◌, ◌↔◌, ◌++◌, ◌∷◌, [], List, length, map, Some, None, Result, Ok, Err}
 use Rattle.zim_fault.specs.declared.faults.Fault.{Fault}
 use Rattle.zim_fault.specs.declared.kinds.Kind.TheVariants.{Syntax}
-use Rattle.zim_fault.specs.declared.tokens.Placed.{Placed}
-use Rattle.zim_lex.specs.declared.lines.Span.{Span}
+use Rattle.zim_fault.specs.declared.faults.Place.{Place}
+use Rattle.zim_tree.specs.declared.stmt.Stmt.{Stmt}
 use Rattle.zim_rational.specs.Rational.{times, whole}
 use Rattle.zim_rows.specs.System.{LinearSystem}
 use Rattle.zim_rows.specs.Points.{IsPoint, objective_at}
@@ -11,10 +11,11 @@ use Rattle.zim_rows.specs.Scaled.{scaled_program, first_fault}
 use Rattle.zim_rows.specs.Covered.{written_program}
 use Rattle.zim_rows.specs.Finished.{program_of}
 use Rattle.zim_plain.specs.declared.plain_form.PlainModel.{PlainModel}
-use Rattle.zim_plain.specs.declared.stop.ParseStop.{ParseStop}
-use Rattle.zim_plain.specs.declared.stop.ParseStop.TheVariants as parsing
-use Rattle.zim_plain.specs.Statements.{Model, Statement, spelled_statement, variables, name_of}
-use Rattle.zim_plain.specs.Segments.{segment, IsWithin, Spell}
+use Rattle.zim_plain.specs.declared.stop.PlainStop.{PlainStop}
+use Rattle.zim_plain.specs.declared.stop.PlainStop.TheVariants as stopped
+use Rattle.zim_plain.specs.Statements.{Model, Statement, variables, name_of}
+use Rattle.zim_tree.specs.PlainStatement.{replaced_statement}
+use Rattle.zim_plain.specs.Trees.{tree_of, trees_of, IsOfPlainForm}
 use Rattle.zim_plain.specs.Meaning.{Assignment, IsAssignment, Sat, Obj, maximises}
 use Rattle.zim_plain.specs.Faults.{fault_at, HasFault, AreFaultless, IsPlain}
 use Rattle.zim_plain.specs.Build.{Built, Stands}
@@ -44,47 +45,51 @@ pub record IsAccepted (model : Model) : Type 0 where
   pub system_is : IsSystemOf model system
   pub faultless : first_fault system ≡ None
 
--- The first fault of segments of tokens: the first that no statement spells, at its first token; where each is spelled, the first fault of a
--- statement behind those before it; where there is none either, the first fault of the system: a row that is past when it is multiplied by its
--- factor, or the objective.
-pub data IsFirstFault (placed : List Placed) (spans : List Span) : Fault → Type 0 where
-  broken : (before : List Span) (span : Span) (after : List Span) (model : Model) (first : Placed) → spans ≡ before ++ span ∷ after →
-      Spell placed before model → ((s : Statement) → spelled_statement s ≡ segment placed span → ⊥) → get_or placed span.from first ≡ first →
-      IsFirstFault placed spans (fault_at Syntax first.place)
-  stated : (before : Model) (statement : Statement) (after : Model) (fault : Fault) → Spell placed spans (before ++ statement ∷ after) → AreFaultless [] before →
-      HasFault before statement fault → IsFirstFault placed spans fault
-  finished : (model : Model) (system : LinearSystem) (fault : Fault) → Spell placed spans model → IsPlain model → IsSystemOf model system → first_fault system ≡ Some fault →
-      IsFirstFault placed spans fault
+-- The first fault of statements, statement by statement: of the first that isn't of plain form, `Syntax` at its first token, or the first fault of
+-- a statement behind those before it, whichever statement comes first; where there is none, the first fault of the system: a row that is past
+-- when it is multiplied by its factor, or the objective.
+pub data IsFirstFault (trees : List Stmt) : Fault → Type 0 where
+  not_plain : (before : Model) (stmt : Stmt) (after : List Stmt) → trees ≡ trees_of before ++ stmt ∷ after → AreFaultless [] before → ¬ IsOfPlainForm stmt →
+      IsFirstFault trees (fault_at Syntax stmt.first)
+  stated : (before : Model) (statement : Statement) (after : List Stmt) (fault : Fault) → trees ≡ trees_of before ++ tree_of statement ∷ after → AreFaultless [] before →
+      HasFault before statement fault → IsFirstFault trees fault
+  finished : (model : Model) (system : LinearSystem) (fault : Fault) → trees ≡ trees_of model → IsPlain model → IsSystemOf model system → first_fault system ≡ Some fault →
+      IsFirstFault trees fault
 
--- The segments of tokens are spelled by the statements of a plain model, for which what was built stands; or they have a first fault. Want of
--- memory is free.
-abbrev pub BuildsFrom : {V : Type 0} → (V → Built) → List Placed → List Span → Result V ParseStop → Type 0
-BuildsFrom view placed spans (Ok made) = (model : Model) × Spell placed spans model × Stands model (view made)
-BuildsFrom view placed spans (Err (parsing.Fault fault)) = IsFirstFault placed spans fault
-BuildsFrom view placed spans (Err parsing.Memory) = Unit {0}
+-- The statements are those of a plain model, for which what was built stands; or they have a first fault. Want of memory is free.
+abbrev pub BuildsFrom : {V : Type 0} → (V → Built) → List Stmt → Result V PlainStop → Type 0
+BuildsFrom view trees (Ok made) = (model : Model) × (trees ≡ trees_of model) × Stands model (view made)
+BuildsFrom view trees (Err (stopped.Fault fault)) = IsFirstFault trees fault
+BuildsFrom view trees (Err stopped.Memory) = Unit {0}
 
 -- What was built is finished as a program that says each plain model for which it stands, or its system has a first fault. Want of memory is
 -- free.
-abbrev pub FinishedAnswer : Built → Result PlainModel ParseStop → Type 0
+abbrev pub FinishedAnswer : Built → Result PlainModel PlainStop → Type 0
 FinishedAnswer b (Ok read) = (model : Model) → IsPlain model → Stands model b → Says model read
-FinishedAnswer b (Err (parsing.Fault fault)) = first_fault b.system ≡ Some fault
-FinishedAnswer b (Err parsing.Memory) = Unit {0}
+FinishedAnswer b (Err (stopped.Fault fault)) = first_fault b.system ≡ Some fault
+FinishedAnswer b (Err stopped.Memory) = Unit {0}
 
--- The segments of tokens are spelled by the statements of a plain model, which the program says; or they have a first fault. Want of memory is
--- free.
-abbrev pub ParseAnswer : List Placed → List Span → Result PlainModel ParseStop → Type 0
-ParseAnswer placed spans (Ok read) = (model : Model) × Spell placed spans model × IsPlain model × Says model read
-ParseAnswer placed spans (Err (parsing.Fault fault)) = IsFirstFault placed spans fault
-ParseAnswer placed spans (Err parsing.Memory) = Unit {0}
+-- The statements are those of a plain model, which the program says; or they have a first fault. Want of memory is free.
+abbrev pub PlainAnswer : List Stmt → Result PlainModel PlainStop → Type 0
+PlainAnswer trees (Ok read) = (model : Model) × (trees ≡ trees_of model) × IsPlain model × Says model read
+PlainAnswer trees (Err (stopped.Fault fault)) = IsFirstFault trees fault
+PlainAnswer trees (Err stopped.Memory) = Unit {0}
 
--- Segments of tokens have one first fault at most.
-abbrev pub HasOneFault : List Placed → List Span → Type 0
-HasOneFault placed spans = All (IsWithin (length placed)) spans → (one other : Fault) → IsFirstFault placed spans one → IsFirstFault placed spans other → one ≡ other
+-- Trees are those of one model at most.
+abbrev pub HasOneModel : List Stmt → Type 0
+HasOneModel trees = (one other : Model) → trees ≡ trees_of one → trees ≡ trees_of other → one ≡ other
 
--- Segments that are spelled by the statements of a plain model, which a program says, have no first fault.
-abbrev pub HasNoFaultAsModel : List Placed → List Span → Type 0
-HasNoFaultAsModel placed spans =
-    (model : Model) (read : PlainModel) (fault : Fault) → Spell placed spans model → IsPlain model → Says model read → ¬ IsFirstFault placed spans fault
+-- Statements have one first fault at most.
+abbrev pub HasOneFault : List Stmt → Type 0
+HasOneFault trees = (one other : Fault) → IsFirstFault trees one → IsFirstFault trees other → one ≡ other
+
+-- The statements of an accepted model have no first fault.
+abbrev pub HasNoFaultAsModel : Model → Type 0
+HasNoFaultAsModel model = (fault : Fault) → IsAccepted model → ¬ IsFirstFault (trees_of model) fault
+
+-- Each map of places that keeps the statements keeps the place of their first fault: so that place is one that stands in them.
+abbrev pub HasPlaceOfStatements : List Stmt → Fault → Type 0
+HasPlaceOfStatements trees fault = (g : Place → Place) → map (replaced_statement g) trees ≡ trees → g fault.place ≡ fault.place
 
 -- A model has one program at most.
 abbrev pub HasOneProgram : Model → Type 0

@@ -7,8 +7,8 @@ use Rattle.zim_rows.specs.System.{LinearSystem}
 use Rattle.zim_rows.specs.declared.faults.RowFault.{RowFault}
 use Rattle.zim_rows.specs.declared.faults.RowFault.TheVariants as fault
 use Rattle.zim_plain.specs.declared.builder.Builder.{Builder}
-use Rattle.zim_plain.specs.declared.stop.ParseStop.{ParseStop}
-use Rattle.zim_plain.specs.declared.stop.ParseStop.TheVariants as parsing
+use Rattle.zim_plain.specs.declared.stop.PlainStop.{PlainStop}
+use Rattle.zim_plain.specs.declared.stop.PlainStop.TheVariants as stopped
 use Rattle.zim_plain.specs.Statements.{Text, Statement, Variable, Objective, Constraint, Model, variables, name_of}
 use Rattle.zim_plain.specs.Faults.{fault_at, AreFaultless, HasFault}
 use Rattle.zim_plain.specs.Systems.{AreRowsOf, objective_position, HasObjectiveOf, nonnegative}
@@ -35,9 +35,9 @@ built b = record {
 -- The names of statements that declare no variable.
 abbrev pub other_names : Model → List Text
 other_names [] = []
-other_names (Variable head end ∷ rest) = other_names rest
-other_names (Objective maximize head colon sum end ∷ rest) = head.name ∷ other_names rest
-other_names (Constraint head colon left sense at right end ∷ rest) = head.name ∷ other_names rest
+other_names (Variable head ∷ rest) = other_names rest
+other_names (Objective maximize head sum ∷ rest) = head.name ∷ other_names rest
+other_names (Constraint head left sense at right ∷ rest) = head.name ∷ other_names rest
 
 -- What was built stands for the statements before, also where further variables follow.
 pub record Stands (before : Model) (b : Built) : Type 0 where
@@ -58,17 +58,17 @@ pub record IsSmall (b : Built) : Type 0 where
   pub statements : length b.statements ≤ length b.variables + length b.system.rows + (if is_some b.objective then 1 else 0)
 
 -- A row or a column that was not added, told at a place.
-abbrev pub stop_of_row : Place → RowFault → ParseStop
-stop_of_row place fault.TooManyRows = parsing.Fault (fault_at TooManyRows place)
-stop_of_row place fault.TooManyColumns = parsing.Fault (fault_at TooManyColumns place)
-stop_of_row place fault.Memory = parsing.Memory
+abbrev pub stop_of_row : Place → RowFault → PlainStop
+stop_of_row place fault.TooManyRows = stopped.Fault (fault_at TooManyRows place)
+stop_of_row place fault.TooManyColumns = stopped.Fault (fault_at TooManyColumns place)
+stop_of_row place fault.Memory = stopped.Memory
 
 -- A statement was added, or it has a fault behind those before it. Want of memory is free.
-abbrev pub AddAnswer : Model → Statement → Built → Result Unit ParseStop → Type 0
+abbrev pub AddAnswer : Model → Statement → Built → Result Unit PlainStop → Type 0
 AddAnswer before statement after (Ok x) = Stands (before ++ statement ∷ []) after
-AddAnswer before statement after (Err (parsing.Fault fault)) = HasFault before statement fault
-AddAnswer before statement after (Err parsing.Memory) = Unit {0}
+AddAnswer before statement after (Err (stopped.Fault fault)) = HasFault before statement fault
+AddAnswer before statement after (Err stopped.Memory) = Unit {0}
 
 -- Adding a statement to what stands for statements before answers so.
-abbrev pub Adds : Built → Statement → Built → Result Unit ParseStop → Type 0
+abbrev pub Adds : Built → Statement → Built → Result Unit PlainStop → Type 0
 Adds old statement after result = (before : Model) → Stands before old → AddAnswer before statement after result

@@ -8,6 +8,7 @@ use Rattle.zim_fault.specs.declared.kinds.Kind.TheVariants.{Syntax, Past, TooMan
 use Rattle.zim_rational.specs.Rational.{Rational, zero, plus, negate, over}
 use Rattle.zim_fraction.specs.Limit.{is_number, is_sum_within}
 use Rattle.zim_decimal.specs.Literal.{literal_answer}
+use Rattle.zim_rows.specs.Scaled.{first_of}
 use Rattle.zim_plain.specs.Statements.{Literal, Divisor, Coefficient, Item, Constant, Multiple, Further, Sum, Statement, Variable, Objective, Constraint, Model, head_of, first_negative, items_of, variables}
 use Rattle.zim_plain.specs.Meaning.{literal_number, coefficient_number, factor_number, signed}
 use Rattle.zim_plain.specs.Suits.{MayFollow}
@@ -19,11 +20,6 @@ fault_at kind place = record { place = place; kind = kind }
 -- Past at a place, unless this holds.
 abbrev pub past_unless : Bool → Place → Option Fault
 past_unless within place = cond within None (Some (fault_at Past place))
-
--- The first of two faults.
-abbrev pub or_else : Option Fault → Option Fault → Option Fault
-or_else (Some fault) later = Some fault
-or_else None later = later
 
 -- ---- the numbers of a list, from left to right
 
@@ -39,11 +35,11 @@ literal_fault literal = at_literal literal.place (literal_answer literal.text)
 abbrev pub divisor_fault : Rational → Option Divisor → Option Fault
 divisor_fault q None = None
 divisor_fault q (Some divisor) =
-    or_else (literal_fault divisor.literal) (past_unless (is_number (over q (literal_number divisor.literal))) divisor.slash)
+    first_of (literal_fault divisor.literal) (past_unless (is_number (over q (literal_number divisor.literal))) divisor.slash)
 
 -- A coefficient's number is past, or its divisor, or their quotient.
 abbrev pub coefficient_fault : Coefficient → Option Fault
-coefficient_fault coefficient = or_else (literal_fault coefficient.number) (divisor_fault (literal_number coefficient.number) coefficient.divisor)
+coefficient_fault coefficient = first_of (literal_fault coefficient.number) (divisor_fault (literal_number coefficient.number) coefficient.divisor)
 
 -- The first number of an item that is past.
 abbrev pub item_fault : Item → Option Fault
@@ -54,7 +50,7 @@ item_fault (Multiple (Some factor) place name) = coefficient_fault factor.coeffi
 -- The first number of further items that is past.
 unfoldable pub items_fault : List Further → Option Fault
 items_fault [] = None
-items_fault (f ∷ fs) = or_else (item_fault f.item) (items_fault fs)
+items_fault (f ∷ fs) = first_of (item_fault f.item) (items_fault fs)
 
 -- ---- sums, operator by operator
 
@@ -84,7 +80,7 @@ amount_among item so_far (i ∷ is) = amount_among item (if are_alike item i.1 t
 unfoldable pub sums_fault : List (Bool × Item) → List Further → Option Fault
 sums_fault before [] = None
 sums_fault before (f ∷ fs) =
-    or_else
+    first_of
     (past_unless (is_sum_within (amount_among f.item zero before) (amount (f.sign.negative, f.item))) f.sign.place)
     (sums_fault (before ++ (f.sign.negative, f.item) ∷ []) fs)
 
@@ -92,9 +88,9 @@ sums_fault before (f ∷ fs) =
 unfoldable pub constants_fault : List (Bool × Item) → List Further → Option Fault
 constants_fault before [] = None
 constants_fault before (f ∷ fs) =
-    or_else
+    first_of
     (item_fault f.item)
-    (or_else
+    (first_of
     (past_unless (is_sum_within (amount_among f.item zero before) (amount (f.sign.negative, f.item))) f.sign.place)
     (constants_fault (before ++ (f.sign.negative, f.item) ∷ []) fs))
 
@@ -114,7 +110,7 @@ first_item sum = (first_negative sum.sign, sum.first) ∷ []
 -- A list is read as numbers first: its own numbers, and their sums where it names no variable.
 abbrev pub numbers_fault : Sum → Option Fault
 numbers_fault sum =
-    or_else (item_fault sum.first) (if names_variable sum then items_fault sum.others else constants_fault (first_item sum) sum.others)
+    first_of (item_fault sum.first) (if names_variable sum then items_fault sum.others else constants_fault (first_item sum) sum.others)
 
 -- A list that names a variable is then added up, from left to right.
 abbrev pub adding_fault : Sum → Option Fault
@@ -139,9 +135,9 @@ difference_fault left at right = past_unless (are_differences_within left right 
 -- How many rows a model has.
 abbrev pub rows_of : Model → ℕ
 rows_of [] = 0
-rows_of (Variable head end ∷ rest) = rows_of rest
-rows_of (Objective maximize head colon sum end ∷ rest) = rows_of rest
-rows_of (Constraint head colon left sense at right end ∷ rest) = ℕ.suc (rows_of rest)
+rows_of (Variable head ∷ rest) = rows_of rest
+rows_of (Objective maximize head sum ∷ rest) = rows_of rest
+rows_of (Constraint head left sense at right ∷ rest) = ℕ.suc (rows_of rest)
 
 -- A fault of this kind at a place, where there are as many as there may be.
 abbrev pub limit_fault : ℕ → Kind → Place → Option Fault
@@ -151,14 +147,14 @@ limit_fault count kind place = cond (nat_le 1000000 count) (Some (fault_at kind 
 -- then of the right list; then a past sum of the left list, and of the right one, where it names one; then a past difference of the
 -- two sides; then the limit of columns, at its name, or of rows, at its relation.
 unfoldable pub number_fault : Model → Statement → Option Fault
-number_fault before (Variable head end) = limit_fault (length (variables before)) TooManyColumns head.at
-number_fault before (Objective maximize head colon sum end) = or_else (numbers_fault sum) (adding_fault sum)
-number_fault before (Constraint head colon left sense at right end) =
-    or_else
+number_fault before (Variable head) = limit_fault (length (variables before)) TooManyColumns head.at
+number_fault before (Objective maximize head sum) = first_of (numbers_fault sum) (adding_fault sum)
+number_fault before (Constraint head left sense at right) =
+    first_of
     (numbers_fault left)
-    (or_else
+    (first_of
     (numbers_fault right)
-    (or_else (adding_fault left) (or_else (adding_fault right) (or_else (difference_fault left at right) (limit_fault (rows_of before) TooManyRows at)))))
+    (first_of (adding_fault left) (first_of (adding_fault right) (first_of (difference_fault left at right) (limit_fault (rows_of before) TooManyRows at)))))
 
 -- The first fault of a statement behind others: it may not follow them, which is told at its first word, or it may and has another one.
 pub data HasFault (before : Model) (statement : Statement) : Fault → Type 0 where

@@ -1,6 +1,7 @@
-pub mod Many
 pub mod Statements
-pub mod Segments
+pub mod Trees
+pub mod Reading
+pub mod Written
 pub mod Reader
 pub mod Meaning
 pub mod Suits

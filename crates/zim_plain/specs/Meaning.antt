@@ -53,9 +53,9 @@ value_of (first ∷ names) (value ∷ values) name = if pointwise nat_eq name fi
 
 -- A statement holds; only a `subto` asks for something.
 abbrev pub Holds : List Text → Assignment → Statement → Type 0
-Holds names values (Variable head end) = ⊤
-Holds names values (Objective maximize head colon sum end) = ⊤
-Holds names values (Constraint head colon left sense at right end) =
+Holds names values (Variable head) = ⊤
+Holds names values (Objective maximize head sum) = ⊤
+Holds names values (Constraint head left sense at right) =
     Compares sense (sum_number (value_of names values) left) (sum_number (value_of names values) right)
 
 -- Each variable is from 0 up, and every statement holds.
@@ -66,9 +66,9 @@ pub record Sat (model : Model) (values : Assignment) : Type 0 where
 -- The number of the first objective among statements, 0 without one.
 abbrev pub objective_among : List Text → Assignment → Model → Rational
 objective_among names values [] = zero
-objective_among names values (Variable head end ∷ rest) = objective_among names values rest
-objective_among names values (Objective maximize head colon sum end ∷ rest) = sum_number (value_of names values) sum
-objective_among names values (Constraint head colon left sense at right end ∷ rest) = objective_among names values rest
+objective_among names values (Variable head ∷ rest) = objective_among names values rest
+objective_among names values (Objective maximize head sum ∷ rest) = sum_number (value_of names values) sum
+objective_among names values (Constraint head left sense at right ∷ rest) = objective_among names values rest
 
 -- The model's objective at an assignment.
 abbrev pub Obj : Model → Assignment → Rational
@@ -77,6 +77,6 @@ Obj model values = objective_among (variables model) values model
 -- Whether the first objective among statements is to be maximised; without one it is not.
 abbrev pub maximises : Model → Bool
 maximises [] = false
-maximises (Variable head end ∷ rest) = maximises rest
-maximises (Objective maximize head colon sum end ∷ rest) = maximize
-maximises (Constraint head colon left sense at right end ∷ rest) = maximises rest
+maximises (Variable head ∷ rest) = maximises rest
+maximises (Objective maximize head sum ∷ rest) = maximize
+maximises (Constraint head left sense at right ∷ rest) = maximises rest

@@ -9,9 +9,10 @@ use Rattle.zim_fraction.specs.Limit.{is_number, is_sum_within}
 use Rattle.zim_linear.specs.Forms.{Term, LinearForm, Assignment, AreTerms, AreColumns, sum_at, number_at}
 use Rattle.zim_linear.specs.declared.faults.LinFault.{LinFault}
 use Rattle.zim_linear.specs.declared.faults.LinFault.TheVariants.{Past, Memory}
+use Rattle.zim_rows.specs.Scaled.{first_of}
 use Rattle.zim_plain.specs.declared.parts.Part.{Part}
 use Rattle.zim_plain.specs.Statements.{Text, Item, Constant, Multiple, Further}
-use Rattle.zim_plain.specs.Faults.{amount, or_else, past_unless}
+use Rattle.zim_plain.specs.Faults.{amount, past_unless}
 use Rattle.zim_plain.specs.Systems.{column_of_name}
 
 -- ---- terms
@@ -51,7 +52,7 @@ sum_of_column j so_far (t ∷ ts) = sum_of_column j (if nat_eq t.0 j then plus s
 unfoldable pub parts_fault : List Term → List Part → Option Fault
 parts_fault before [] = None
 parts_fault before (p ∷ ps) =
-    or_else
+    first_of
     (past_unless (is_sum_within (sum_of_column (unwrap_or p.column 0) rational.zero before) p.amount) p.place)
     (parts_fault (before ++ part_term p ∷ []) ps)
 

@@ -10,15 +10,16 @@ use Rattle.zim_linear.specs.Forms.{LinearForm, Assignment}
 use Rattle.zim_linear.specs.declared.faults.LinFault.{LinFault}
 use Rattle.zim_linear.specs.declared.faults.LinFault.TheVariants.{Past, Memory}
 use Rattle.zim_fault.specs.declared.kinds.Kind.TheVariants as kind
+use Rattle.zim_rows.specs.Scaled.{first_of}
 use Rattle.zim_plain.specs.declared.parts.Part.{Part}
 use Rattle.zim_plain.specs.declared.parts.Side.{Side}
 use Rattle.zim_plain.specs.declared.parts.Side.TheVariants.{Known, Parts}
-use Rattle.zim_plain.specs.declared.stop.ParseStop.{ParseStop}
-use Rattle.zim_plain.specs.declared.stop.ParseStop.TheVariants as parsing
+use Rattle.zim_plain.specs.declared.stop.PlainStop.{PlainStop}
+use Rattle.zim_plain.specs.declared.stop.PlainStop.TheVariants as stopped
 use Rattle.zim_plain.specs.Statements.{Text, Item, Constant, Multiple, Further, Sum, first_negative, items_of}
 use Rattle.zim_plain.specs.Meaning.{coefficient_number, factor_number, sum_number}
 use Rattle.zim_plain.specs.Suits.{SuitsCoefficient, SuitsFactor, SuitsItem}
-use Rattle.zim_plain.specs.Faults.{fault_at, or_else, item_fault, items_fault, names_variable, numbers_fault, adding_fault, difference_fault}
+use Rattle.zim_plain.specs.Faults.{fault_at, item_fault, items_fault, names_variable, numbers_fault, adding_fault, difference_fault}
 use Rattle.zim_plain.specs.Systems.{IsForm}
 use Rattle.zim_plain.specs.Parts.{part_at, part_of, IsPart, IsFormOf, parts_fault, parts_number}
 
@@ -57,10 +58,10 @@ PartAnswer fault part (Ok made) = (fault ≡ None) × (made ≡ part) × IsPart 
 PartAnswer fault part (Err met) = fault ≡ Some met
 
 -- Something that was made, or the first fault. Want of memory is free.
-abbrev pub MadeAnswer : {V : Type 0} → Option Fault → (V → Type 0) → Result V ParseStop → Type 0
+abbrev pub MadeAnswer : {V : Type 0} → Option Fault → (V → Type 0) → Result V PlainStop → Type 0
 MadeAnswer fault Is (Ok made) = (fault ≡ None) × Is made
-MadeAnswer fault Is (Err (parsing.Fault met)) = fault ≡ Some met
-MadeAnswer fault Is (Err parsing.Memory) = Unit {0}
+MadeAnswer fault Is (Err (stopped.Fault met)) = fault ≡ Some met
+MadeAnswer fault Is (Err stopped.Memory) = Unit {0}
 
 -- The parts of a list: those of its items, in order.
 abbrev pub ArePartsOf : List Text → Sum → List Part → Type 0
@@ -74,7 +75,7 @@ HavePartsOf names sum parts = ArePartsOf names sum parts.items × AllByRecursion
 
 -- The first number of a list that is past.
 abbrev pub parts_numbers_fault : Sum → Option Fault
-parts_numbers_fault sum = or_else (item_fault sum.first) (items_fault sum.others)
+parts_numbers_fault sum = first_of (item_fault sum.first) (items_fault sum.others)
 
 -- The number of a list that names no variable, or its first number or sum that is past.
 abbrev pub KnownAnswer : Sum → Result Rational Fault → Type 0
@@ -112,7 +113,7 @@ IsSideForm side form = IsFormOf (side_parts side) (side_number side) form
 
 -- The first fault of a list: of its numbers, then of its sums.
 abbrev pub list_fault : Sum → Option Fault
-list_fault sum = or_else (numbers_fault sum) (adding_fault sum)
+list_fault sum = first_of (numbers_fault sum) (adding_fault sum)
 
 -- A form of a list.
 abbrev pub IsListForm : List Text → Sum → LinearForm → Type 0
@@ -121,14 +122,14 @@ IsListForm names sum form = IsForm names (λ x. sum_number x sum) form
 -- The first fault of two lists and their difference.
 abbrev pub row_fault : Sum → Place → Sum → Option Fault
 row_fault left at right =
-    or_else (numbers_fault left) (or_else (numbers_fault right) (or_else (adding_fault left) (or_else (adding_fault right) (difference_fault left at right))))
+    first_of (numbers_fault left) (first_of (numbers_fault right) (first_of (adding_fault left) (first_of (adding_fault right) (difference_fault left at right))))
 
 -- The form of the difference of two lists.
 abbrev pub IsRowForm : List Text → Sum → Sum → LinearForm → Type 0
 IsRowForm names left right form = IsForm names (λ x. minus (sum_number x left) (sum_number x right)) form
 
 -- A difference of forms that is past is told at a place.
-abbrev pub row_answer : Place → Result LinearForm LinFault → Result LinearForm ParseStop
+abbrev pub row_answer : Place → Result LinearForm LinFault → Result LinearForm PlainStop
 row_answer at (Ok form) = Ok form
-row_answer at (Err Past) = Err (parsing.Fault (fault_at kind.Past at))
-row_answer at (Err Memory) = Err parsing.Memory
+row_answer at (Err Past) = Err (stopped.Fault (fault_at kind.Past at))
+row_answer at (Err Memory) = Err stopped.Memory

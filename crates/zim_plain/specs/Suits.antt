@@ -35,16 +35,16 @@ SuitsSum declared sum = AllByRecursion (SuitsItem declared) (items_of sum)
 
 -- Whether the statement is a `minimize` or a `maximize`.
 abbrev pub is_objective : Statement → Bool
-is_objective (Variable head end) = false
-is_objective (Objective maximize head colon sum end) = true
-is_objective (Constraint head colon left sense at right end) = false
+is_objective (Variable head) = false
+is_objective (Objective maximize head sum) = true
+is_objective (Constraint head left sense at right) = false
 
 -- The lists of a statement have only variables that are declared before and divide by no 0, and there is one objective.
 abbrev pub HasSuitedParts : (before : Model) → Statement → Type 0
-HasSuitedParts before (Variable head end) = ⊤
-HasSuitedParts before (Objective maximize head colon sum end) =
+HasSuitedParts before (Variable head) = ⊤
+HasSuitedParts before (Objective maximize head sum) =
     SuitsSum (variables before) sum × AllByRecursion (λ (other : Statement). is_objective other ≡ false) before
-HasSuitedParts before (Constraint head colon left sense at right end) = SuitsSum (variables before) left × SuitsSum (variables before) right
+HasSuitedParts before (Constraint head left sense at right) = SuitsSum (variables before) left × SuitsSum (variables before) right
 
 -- A statement may follow the statements before it: none of them has its name, and its parts suit them.
 pub record MayFollow (before : Model) (statement : Statement) : Type 0 where

@@ -44,18 +44,18 @@ pub record IsRowOf (names : List Text) (position : ℕ) (left : Sum) (sense : Se
 -- One row for each `subto` of some statements, in their order; the first of the statements has this position.
 abbrev pub AreRowsOf : List Text → ℕ → Model → List GivenRow → Type 0
 AreRowsOf names position [] rows = rows ≡ []
-AreRowsOf names position (Variable head end ∷ rest) rows = AreRowsOf names (position + 1) rest rows
-AreRowsOf names position (Objective maximize head colon sum end ∷ rest) rows = AreRowsOf names (position + 1) rest rows
-AreRowsOf names position (Constraint head colon left sense at right end ∷ rest) [] = ⊥
-AreRowsOf names position (Constraint head colon left sense at right end ∷ rest) (row ∷ rows) =
+AreRowsOf names position (Variable head ∷ rest) rows = AreRowsOf names (position + 1) rest rows
+AreRowsOf names position (Objective maximize head sum ∷ rest) rows = AreRowsOf names (position + 1) rest rows
+AreRowsOf names position (Constraint head left sense at right ∷ rest) [] = ⊥
+AreRowsOf names position (Constraint head left sense at right ∷ rest) (row ∷ rows) =
     IsRowOf names position left sense at right row × AreRowsOf names (position + 1) rest rows
 
 -- The position of the first objective among statements, of which the first has this position.
 abbrev pub objective_position : ℕ → Model → Option ℕ
 objective_position position [] = None
-objective_position position (Variable head end ∷ rest) = objective_position (position + 1) rest
-objective_position position (Objective maximize head colon sum end ∷ rest) = Some position
-objective_position position (Constraint head colon left sense at right end ∷ rest) = objective_position (position + 1) rest
+objective_position position (Variable head ∷ rest) = objective_position (position + 1) rest
+objective_position position (Objective maximize head sum ∷ rest) = Some position
+objective_position position (Constraint head left sense at right ∷ rest) = objective_position (position + 1) rest
 
 -- An objective with this aim, at the name of its statement, whose form has the number of the list.
 pub record IsObjectiveOf (names : List Text) (maximize : Bool) (place : Place) (sum : Sum) (objective : rows.Objective) : Type 0 where
@@ -66,10 +66,10 @@ pub record IsObjectiveOf (names : List Text) (maximize : Bool) (place : Place) (
 -- The first objective among statements; without one there is none.
 abbrev pub HasObjectiveOf : List Text → Model → Option rows.Objective → Type 0
 HasObjectiveOf names [] objective = objective ≡ None
-HasObjectiveOf names (Variable head end ∷ rest) objective = HasObjectiveOf names rest objective
-HasObjectiveOf names (Objective maximize head colon sum end ∷ rest) None = ⊥
-HasObjectiveOf names (Objective maximize head colon sum end ∷ rest) (Some objective) = IsObjectiveOf names maximize head.at sum objective
-HasObjectiveOf names (Constraint head colon left sense at right end ∷ rest) objective = HasObjectiveOf names rest objective
+HasObjectiveOf names (Variable head ∷ rest) objective = HasObjectiveOf names rest objective
+HasObjectiveOf names (Objective maximize head sum ∷ rest) None = ⊥
+HasObjectiveOf names (Objective maximize head sum ∷ rest) (Some objective) = IsObjectiveOf names maximize head.at sum objective
+HasObjectiveOf names (Constraint head left sense at right ∷ rest) objective = HasObjectiveOf names rest objective
 
 -- A real column from 0 up.
 abbrev pub nonnegative : Column

@@ -8,11 +8,11 @@ ghost use Rattle.zim_plain.specs.Statements.{Variable, Objective, Constraint};
 ghost use Rattle.zim_plain.specs.Faults.{fault_at};
 ghost use Rattle.zim_plain.specs.Reader.{heading_of, sum_of, statement_of};
 ghost use Rattle.zim_plain.specs.Build.{built, Stands, Adds, IsSmall, stop_of_row};
-ghost use Rattle.zim_plain.specs.declared.stop.ParseStop.TheVariants as parsing;
+ghost use Rattle.zim_plain.specs.declared.stop.PlainStop.TheVariants as stopped;
 
 use crate::forms::{list_form, row_form};
 use crate::statement::{Head, Statement, Sum};
-use crate::stop::ParseStop;
+use crate::stop::PlainStop;
 use crate::suits::suits_sum;
 use indexmap::IndexSet;
 use std::alloc::Global;
@@ -37,29 +37,29 @@ pub struct Builder {
 }
 
 /// The stop of a statement that may not follow those before it, told at its first word.
-fn unsuited(head: &Head<'_>) -> ParseStop
-    ensures { result ≡ parsing.Fault (fault_at Syntax (heading_of head.now).word) }
+fn unsuited(head: &Head<'_>) -> PlainStop
+    ensures { result ≡ stopped.Fault (fault_at Syntax (heading_of head.now).word) }
 {
-    ParseStop::Fault(Fault {
+    PlainStop::Fault(Fault {
         place: head.word,
         kind: Kind::Syntax,
     })
 }
 
 /// The stop of a row or a column that was not added, told at a place.
-fn unadded(place: Place, fault: RowFault) -> ParseStop
+fn unadded(place: Place, fault: RowFault) -> PlainStop
     ensures { result ≡ stop_of_row place fault }
 {
     match fault {
-        RowFault::TooManyRows => ParseStop::Fault(Fault {
+        RowFault::TooManyRows => PlainStop::Fault(Fault {
             place,
             kind: Kind::TooManyRows,
         }),
-        RowFault::TooManyColumns => ParseStop::Fault(Fault {
+        RowFault::TooManyColumns => PlainStop::Fault(Fault {
             place,
             kind: Kind::TooManyColumns,
         }),
-        RowFault::Memory => ParseStop::Memory,
+        RowFault::Memory => PlainStop::Memory,
     }
 }
 
@@ -86,9 +86,9 @@ impl Builder {
     }
 
     /// Adds `var name;`.
-    fn add_variable(&mut self, head: &Head<'_>) -> Result<(), ParseStop>
+    fn add_variable(&mut self, head: &Head<'_>) -> Result<(), PlainStop>
         requires { IsSmall (built self.old) }
-        ensures adds { (end : Place) → Adds (built self.old) (Variable (heading_of head.now) end) (built self.new) result }
+        ensures adds { Adds (built self.old) (Variable (heading_of head.now)) (built self.new) result }
         ensures small { OnOk result (IsSmall (built self.new)) }
     {
         if self.is_taken(head.name) {
@@ -114,9 +114,9 @@ impl Builder {
         maximize: bool,
         head: &Head<'_>,
         sum: &Sum<'_>,
-    ) -> Result<(), ParseStop>
+    ) -> Result<(), PlainStop>
         requires { IsSmall (built self.old) }
-        ensures adds { (colon end : Place) → Adds (built self.old) (Objective maximize (heading_of head.now) colon (sum_of sum.now) end) (built self.new) result }
+        ensures adds { Adds (built self.old) (Objective maximize (heading_of head.now) (sum_of sum.now)) (built self.new) result }
         ensures small { OnOk result (IsSmall (built self.new)) }
     {
         if self.objective.is_some() {
@@ -148,9 +148,9 @@ impl Builder {
         sense: Sense,
         at: Place,
         right: &Sum<'_>,
-    ) -> Result<(), ParseStop>
+    ) -> Result<(), PlainStop>
         requires { IsSmall (built self.old) }
-        ensures adds { (colon end : Place) → Adds (built self.old) (Constraint (heading_of head.now) colon (sum_of left.now) sense at (sum_of right.now) end) (built self.new) result }
+        ensures adds { Adds (built self.old) (Constraint (heading_of head.now) (sum_of left.now) sense at (sum_of right.now)) (built self.new) result }
         ensures small { OnOk result (IsSmall (built self.new)) }
     {
         if self.is_taken(head.name) {
@@ -184,17 +184,17 @@ impl Builder {
 
     /// Adds a statement. `Fault` comes exactly where it may not follow those before it, at its first word, or where one of
     /// its numbers is past or a column or a row too many.
-    pub fn add(&mut self, alloc: Global, statement: &Statement<'_>) -> Result<(), ParseStop>
+    pub fn add(&mut self, alloc: Global, statement: &Statement<'_>) -> Result<(), PlainStop>
         requires { IsSmall (built self.old) }
         ensures adds { Adds (built self.old) (statement_of statement.now) (built self.new) result }
         ensures small { OnOk result (IsSmall (built self.new)) }
     {
         match statement {
-            Statement::Variable(head, _) => self.add_variable(head),
-            Statement::Objective(maximize, head, _, sum, _) => {
+            Statement::Variable(head) => self.add_variable(head),
+            Statement::Objective(maximize, head, sum) => {
                 self.add_objective(alloc, *maximize, head, sum)
             }
-            Statement::Constraint(head, _, left, sense, at, right, _) => {
+            Statement::Constraint(head, left, sense, at, right) => {
                 self.add_constraint(alloc, head, left, *sense, *at, right)
             }
         }

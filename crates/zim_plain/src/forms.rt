@@ -9,7 +9,7 @@ use crate::numbers::past_at;
 use crate::parts::side_form;
 use crate::sides::read_side;
 use crate::statement::Sum;
-use crate::stop::ParseStop;
+use crate::stop::PlainStop;
 use indexmap::IndexSet;
 use std::alloc::Global;
 use zim_fault::{Bytes, Place};
@@ -20,7 +20,7 @@ pub fn list_form(
     alloc: Global,
     variables: &IndexSet<Bytes>,
     sum: &Sum<'_>,
-) -> Result<Form, ParseStop>
+) -> Result<Form, PlainStop>
     requires few { length variables.now.keys ≤ 1000000 }
     requires suits { SuitsSum variables.now.keys (sum_of sum.now) }
     ensures { MadeAnswer (list_fault (sum_of sum.now)) (IsListForm variables.now.keys (sum_of sum.now)) result }
@@ -40,7 +40,7 @@ pub fn row_form(
     left: &Sum<'_>,
     at: Place,
     right: &Sum<'_>,
-) -> Result<Form, ParseStop>
+) -> Result<Form, PlainStop>
     requires few { length variables.now.keys ≤ 1000000 }
     requires suits_left { SuitsSum variables.now.keys (sum_of left.now) }
     requires suits_right { SuitsSum variables.now.keys (sum_of right.now) }
@@ -66,12 +66,12 @@ pub fn row_form(
 }
 
 /// A form, or its fault told at a place.
-fn told_at(at: Place, form: Result<Form, LinFault>) -> Result<Form, ParseStop>
+fn told_at(at: Place, form: Result<Form, LinFault>) -> Result<Form, PlainStop>
     ensures { result ≡ row_answer at form }
 {
     match form {
         Ok(form) => Ok(form),
-        Err(LinFault::Past) => Err(ParseStop::Fault(past_at(at))),
-        Err(LinFault::Memory) => Err(ParseStop::Memory),
+        Err(LinFault::Past) => Err(PlainStop::Fault(past_at(at))),
+        Err(LinFault::Memory) => Err(PlainStop::Memory),
     }
 }

@@ -1,8 +1,10 @@
 //! Plain form: models of `var`, `minimize`, `maximize` and `subto` statements whose lists are sums of numbers and of
-//! variables with exact coefficients. [`parse`] reads the statements of tokens, and makes the system that they say.
+//! variables with exact coefficients. [`plain_model`] reads them off the trees of statements, and makes the system that they
+//! say.
 //!
-//! `specs/Statements.antt` gives the grammar, `specs/Meaning.antt` what a model says, `specs/Suits.antt` and
-//! `specs/Faults.antt` which models are refused and for what, and `specs/Systems.antt` the system of a model.
+//! `specs/Statements.antt` gives the statements, `specs/Written.antt` how they are written, `specs/Trees.antt` their trees,
+//! `specs/Meaning.antt` what a model says, `specs/Suits.antt` and `specs/Faults.antt` which models are refused and for what,
+//! and `specs/Systems.antt` the system of a model.
 #![tactic(auto)]
 
 mod builder;
@@ -18,8 +20,9 @@ mod stop;
 mod suits;
 
 pub use laws::{
-    a_model_has_no_fault, a_model_has_one_program, segments_have_one_fault,
-    segments_have_one_model, tokens_have_one_statement,
+    a_fault_stands_in_the_statements, a_model_has_no_fault, a_model_has_one_program,
+    a_statement_has_a_writing, a_statement_is_spelled_as_written, plain_form_is_read_as_written,
+    statements_are_one_model, statements_have_one_fault,
 };
-pub use plain_form::{PlainModel, parse};
-pub use stop::ParseStop;
+pub use plain_form::{PlainModel, plain_model};
+pub use stop::PlainStop;

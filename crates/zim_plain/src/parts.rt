@@ -7,7 +7,7 @@ ghost use Rattle.zim_plain.specs.Parts.{AreNumbers, IsPart, IsFormOf, PartFormAn
 ghost use Rattle.zim_plain.specs.Sides.{MadeAnswer, IsSide, side_fault, IsSideForm};
 
 use crate::numbers::past_at;
-use crate::stop::ParseStop;
+use crate::stop::PlainStop;
 use std::alloc::Global;
 use zim_fault::Place;
 use zim_fraction::Fraction;
@@ -61,7 +61,7 @@ fn add_part(alloc: Global, form: &mut Form, part: &Part) -> Result<(), LinFault>
 }
 
 /// The form that parts add up to, or `Past` at the first of them whose sum is past.
-fn parts_form(alloc: Global, mut rest: &[Part]) -> Result<Form, ParseStop>
+fn parts_form(alloc: Global, mut rest: &[Part]) -> Result<Form, PlainStop>
     requires { AllByRecursion IsPart rest.now }
     ensures { MadeAnswer (parts_fault [] rest.now) (IsFormOf rest.now (parts_number rest.now)) result }
 {
@@ -69,8 +69,8 @@ fn parts_form(alloc: Global, mut rest: &[Part]) -> Result<Form, ParseStop>
     while let Some((part, more)) = rest.split_first() {
         match add_part(alloc, &mut form, part) {
             Ok(()) => (),
-            Err(LinFault::Past) => return Err(ParseStop::Fault(past_at(part.place))),
-            Err(LinFault::Memory) => return Err(ParseStop::Memory),
+            Err(LinFault::Past) => return Err(PlainStop::Fault(past_at(part.place))),
+            Err(LinFault::Memory) => return Err(PlainStop::Memory),
         }
         rest = more;
     }
@@ -78,7 +78,7 @@ fn parts_form(alloc: Global, mut rest: &[Part]) -> Result<Form, ParseStop>
 }
 
 /// The form of what was read of a list, or `Past` at the first operator at which a sum is past.
-pub fn side_form(alloc: Global, side: &Side) -> Result<Form, ParseStop>
+pub fn side_form(alloc: Global, side: &Side) -> Result<Form, PlainStop>
     requires { IsSide side.now }
     ensures { MadeAnswer (side_fault side.now) (IsSideForm side.now) result }
 {

@@ -1,392 +1,288 @@
-//! The grammar of plain form, a function for each rule, over the tokens that are left.
+//! Statements of plain form, read off their trees: a function for each class.
 
 ghost use Rattle.std.specs.Prelude.{◌≡◌, map, option_map};
-ghost use Rattle.zim_plain.specs.Many.{many};
-ghost use Rattle.zim_plain.specs.Reader.{Finds, Gives, literal_of, divisor_of, coefficient_of, item_of, sign_of, further_of, sum_of, heading_of, statement_of};
-ghost use Rattle.zim_plain.specs.Reader as spec;
+ghost use Rattle.zim_plain.specs.Reader.{IsRead, Finds, Gives, literal_of, coefficient_of, item_of, sign_of, further_of, sum_of, heading_of, statement_of};
+ghost use Rattle.zim_plain.specs.Reading as spec;
 
 use crate::statement::{
     Coefficient, Divisor, Factor, Further, Head, Item, Literal, SignAt, Statement, Sum,
 };
 use crate::stop::{NotPlain, Stop};
 use std::alloc::Global;
-use zim_fault::{Bytes, Place, Placed, Sign, Token, Word};
+use zim_fault::{Bytes, Place, Relation, Sign, Token};
 use zim_rows::Sense;
+use zim_tree::{Expr, Shape, Stmt};
 
-/// A name, and where it stands.
-#[tactic(auto, unfolding(crate::specs::Reader::read_name))]
-fn name(tokens: &[Placed]) -> Result<(Place, &Bytes, &[Placed]), NotPlain>
-    ensures { Finds (λ p. ((p.0, p.1.now), p.2.now)) result (spec.read_name tokens.now) }
+/// A number.
+#[tactic(auto, unfolding(crate::specs::Reading::read_literal))]
+fn literal(tree: &Expr) -> Result<Literal<'_>, NotPlain>
+    ensures { Finds literal_of result (spec.read_literal tree.now) }
 {
-    match tokens {
-        [
-            Placed {
-                token: Token::Name(name),
-                place,
-            },
-            rest @ ..,
-        ] => Ok((*place, name, rest)),
+    match tree {
+        Expr::Number(place, text) => Ok(Literal {
+            place: *place,
+            text,
+        }),
         _ => Err(NotPlain),
     }
 }
 
-/// A number.
-#[tactic(auto, unfolding(crate::specs::Reader::read_number))]
-fn number(tokens: &[Placed]) -> Result<(Literal<'_>, &[Placed]), NotPlain>
-    ensures { Finds (λ p. (literal_of p.0, p.1.now)) result (spec.read_number tokens.now) }
+/// A name, and where it stands.
+#[tactic(auto, unfolding(crate::specs::Reading::read_name))]
+fn name(tree: &Expr) -> Result<(Place, &Bytes), NotPlain>
+    ensures { Finds (λ p. (p.0, p.1.now)) result (spec.read_name tree.now) }
 {
-    match tokens {
+    match tree {
+        Expr::Name(place, name) => Ok((*place, name)),
+        _ => Err(NotPlain),
+    }
+}
+
+/// The sign of an expression, if it begins with one, and the expression behind it.
+#[tactic(auto, unfolding(crate::specs::Reading::read_signed))]
+fn signed(tree: &Expr) -> (Option<SignAt>, &Expr)
+    ensures { (option_map sign_of result.0, result.1.now) ≡ spec.read_signed tree.now }
+{
+    match tree {
+        Expr::Signed(place, negative, operand) => {
+            let sign = SignAt {
+                place: *place,
+                negative: *negative,
+            };
+            (Some(sign), operand.get())
+        }
+        _ => (None, tree),
+    }
+}
+
+/// A number with its divisor, or with the name that it is a factor of, or with both.
+#[tactic(auto, unfolding(crate::specs::Reading::read_product))]
+fn product<'a>(
+    number: Literal<'a>,
+    others: &'a [(Place, Token, Expr)],
+) -> Result<Item<'a>, NotPlain>
+    ensures { Finds item_of result (spec.read_product (literal_of number.entry) others.now) }
+{
+    match others {
+        [(slash, Token::Sign(Sign::SSlash), divisor)] => {
+            let literal = literal(divisor)?;
+            Ok(Item::Constant(over(number, *slash, literal)))
+        }
+        [(star, Token::Sign(Sign::SStar), operand)] => {
+            let coefficient = Coefficient {
+                number,
+                divisor: None,
+            };
+            let (place, name) = name(operand)?;
+            Ok(multiple(coefficient, *star, place, name))
+        }
         [
-            Placed {
-                token: Token::Number(text),
-                place,
-            },
-            rest @ ..,
-        ] => Ok((
-            Literal {
+            (slash, Token::Sign(Sign::SSlash), divisor),
+            (star, Token::Sign(Sign::SStar), operand),
+        ] => {
+            let literal = literal(divisor)?;
+            let (place, name) = name(operand)?;
+            Ok(multiple(over(number, *slash, literal), *star, place, name))
+        }
+        _ => Err(NotPlain),
+    }
+}
+
+/// A number over another, with the slash at a place.
+fn over<'a>(number: Literal<'a>, slash: Place, literal: Literal<'a>) -> Coefficient<'a>
+    ensures { coefficient_of result ≡ spec.over (literal_of number.entry) slash (literal_of literal.entry) }
+{
+    Coefficient {
+        number,
+        divisor: Some(Divisor { slash, literal }),
+    }
+}
+
+/// A coefficient times a variable, with the star at a place.
+fn multiple<'a>(
+    coefficient: Coefficient<'a>,
+    star: Place,
+    place: Place,
+    name: &'a Bytes,
+) -> Item<'a>
+    ensures { item_of result ≡ spec.multiple (coefficient_of coefficient.entry) star (place, name.now) }
+{
+    Item::Multiple(Some(Factor { coefficient, star }), place, name)
+}
+
+/// A number alone, or a name alone.
+#[tactic(auto, unfolding(crate::specs::Reading::read_operand))]
+fn operand(tree: &Expr) -> Result<Item<'_>, NotPlain>
+    ensures { Finds item_of result (spec.read_operand tree.now) }
+{
+    match tree {
+        Expr::Number(place, text) => Ok(Item::Constant(Coefficient {
+            number: Literal {
                 place: *place,
                 text,
             },
-            rest,
-        )),
+            divisor: None,
+        })),
+        Expr::Name(place, name) => Ok(Item::Multiple(None, *place, name)),
         _ => Err(NotPlain),
     }
 }
 
-/// The place of a colon.
-#[tactic(auto, unfolding(crate::specs::Reader::read_colon))]
-fn colon(tokens: &[Placed]) -> Result<(Place, &[Placed]), NotPlain>
-    ensures { Finds (λ p. (p.0, p.1.now)) result (spec.read_colon tokens.now) }
+/// An item with its sign, which stands before its first operand.
+#[tactic(auto, unfolding(crate::specs::Reading::read_item))]
+fn item(tree: &Expr) -> Result<(Option<SignAt>, Item<'_>), NotPlain>
+    ensures { Finds (λ p. (option_map sign_of p.0, item_of p.1)) result (spec.read_item tree.now) }
 {
-    match tokens {
-        [
-            Placed {
-                token: Token::Sign(Sign::SColon),
-                place,
-            },
-            rest @ ..,
-        ] => Ok((*place, rest)),
-        _ => Err(NotPlain),
-    }
-}
-
-/// The place of a semicolon.
-#[tactic(auto, unfolding(crate::specs::Reader::read_semicolon))]
-fn semicolon(tokens: &[Placed]) -> Result<(Place, &[Placed]), NotPlain>
-    ensures { Finds (λ p. (p.0, p.1.now)) result (spec.read_semicolon tokens.now) }
-{
-    match tokens {
-        [
-            Placed {
-                token: Token::Sign(Sign::SSemicolon),
-                place,
-            },
-            rest @ ..,
-        ] => Ok((*place, rest)),
-        _ => Err(NotPlain),
-    }
-}
-
-/// The place of a slash.
-#[tactic(auto, unfolding(crate::specs::Reader::read_slash))]
-fn slash(tokens: &[Placed]) -> Option<(Place, &[Placed])>
-    ensures { option_map (λ p. (p.0, p.1.now)) result ≡ spec.read_slash tokens.now }
-{
-    match tokens {
-        [
-            Placed {
-                token: Token::Sign(Sign::SSlash),
-                place,
-            },
-            rest @ ..,
-        ] => Some((*place, rest)),
-        _ => None,
-    }
-}
-
-/// The place of a star.
-#[tactic(auto, unfolding(crate::specs::Reader::read_star))]
-fn star(tokens: &[Placed]) -> Option<(Place, &[Placed])>
-    ensures { option_map (λ p. (p.0, p.1.now)) result ≡ spec.read_star tokens.now }
-{
-    match tokens {
-        [
-            Placed {
-                token: Token::Sign(Sign::SStar),
-                place,
-            },
-            rest @ ..,
-        ] => Some((*place, rest)),
-        _ => None,
-    }
-}
-
-/// A plus or a minus.
-#[tactic(auto, unfolding(crate::specs::Reader::read_sign))]
-fn sign(tokens: &[Placed]) -> Option<(SignAt, &[Placed])>
-    ensures { option_map (λ p. (sign_of p.0, p.1.now)) result ≡ spec.read_sign tokens.now }
-{
-    match tokens {
-        [
-            Placed {
-                token: Token::Sign(Sign::SPlus),
-                place,
-            },
-            rest @ ..,
-        ] => Some((
-            SignAt {
-                place: *place,
-                negative: false,
-            },
-            rest,
-        )),
-        [
-            Placed {
-                token: Token::Sign(Sign::SMinus),
-                place,
-            },
-            rest @ ..,
-        ] => Some((
-            SignAt {
-                place: *place,
-                negative: true,
-            },
-            rest,
-        )),
-        _ => None,
-    }
-}
-
-/// The relation of a `subto`, and where it stands.
-#[tactic(auto, unfolding(crate::specs::Reader::read_sense))]
-fn sense(tokens: &[Placed]) -> Result<(Sense, Place, &[Placed]), NotPlain>
-    ensures { Finds (λ p. ((p.0, p.1), p.2.now)) result (spec.read_sense tokens.now) }
-{
-    match tokens {
-        [
-            Placed {
-                token: Token::Sign(Sign::SLessEqual),
-                place,
-            },
-            rest @ ..,
-        ] => Ok((Sense::AtMost, *place, rest)),
-        [
-            Placed {
-                token: Token::Sign(Sign::SGreaterEqual),
-                place,
-            },
-            rest @ ..,
-        ] => Ok((Sense::AtLeast, *place, rest)),
-        [
-            Placed {
-                token: Token::Sign(Sign::SEqual),
-                place,
-            },
-            rest @ ..,
-        ] => Ok((Sense::Equal, *place, rest)),
-        _ => Err(NotPlain),
-    }
-}
-
-/// A slash with its number, if a slash comes first, and what follows.
-#[tactic(auto, unfolding(crate::specs::Reader::read_divisor))]
-fn divisor(tokens: &[Placed]) -> Result<(Option<Divisor<'_>>, &[Placed]), NotPlain>
-    ensures { Finds (λ p. (option_map divisor_of p.0, p.1.now)) result (spec.read_divisor tokens.now) }
-{
-    match slash(tokens) {
-        Some((slash, rest)) => {
-            let (literal, rest) = number(rest)?;
-            Ok((Some(Divisor { slash, literal }), rest))
+    match tree {
+        Expr::Times(first, others) => {
+            let (sign, number) = signed(first.get());
+            let number = literal(number)?;
+            let item = product(number, others.as_slice())?;
+            Ok((sign, item))
         }
-        None => Ok((None, tokens)),
-    }
-}
-
-/// A number, or one over another.
-#[tactic(auto, unfolding(crate::specs::Reader::read_coefficient))]
-fn coefficient(tokens: &[Placed]) -> Result<(Coefficient<'_>, &[Placed]), NotPlain>
-    ensures { Finds (λ p. (coefficient_of p.0, p.1.now)) result (spec.read_coefficient tokens.now) }
-{
-    let (number, rest) = number(tokens)?;
-    let (divisor, rest) = divisor(rest)?;
-    Ok((Coefficient { number, divisor }, rest))
-}
-
-/// The item that begins with a coefficient: a multiple if a star comes next, else the coefficient alone.
-#[tactic(auto, unfolding(crate::specs::Reader::read_behind))]
-fn behind<'a>(
-    coefficient: Coefficient<'a>,
-    tokens: &'a [Placed],
-) -> Result<(Item<'a>, &'a [Placed]), NotPlain>
-    ensures { Finds (λ p. (item_of p.0, p.1.now)) result (spec.read_behind (coefficient_of coefficient.entry) tokens.now) }
-{
-    match star(tokens) {
-        Some((star, rest)) => {
-            let (place, name, rest) = name(rest)?;
-            let factor = Factor { coefficient, star };
-            Ok((Item::Multiple(Some(factor), place, name), rest))
-        }
-        None => Ok((Item::Constant(coefficient), tokens)),
-    }
-}
-
-/// An item without its sign.
-#[tactic(auto, unfolding(crate::specs::Reader::read_item))]
-fn item(tokens: &[Placed]) -> Result<(Item<'_>, &[Placed]), NotPlain>
-    ensures { Finds (λ p. (item_of p.0, p.1.now)) result (spec.read_item tokens.now) }
-{
-    match name(tokens) {
-        Ok((place, name, rest)) => Ok((Item::Multiple(None, place, name), rest)),
-        Err(_) => {
-            let (coefficient, rest) = coefficient(tokens)?;
-            behind(coefficient, rest)
+        _ => {
+            let (sign, alone) = signed(tree);
+            let item = operand(alone)?;
+            Ok((sign, item))
         }
     }
 }
 
-/// An item behind a sign.
-#[tactic(auto, unfolding(crate::specs::Reader::read_further))]
-fn further(sign: SignAt, tokens: &[Placed]) -> Result<(Further<'_>, &[Placed]), NotPlain>
-    ensures { Finds (λ p. (further_of p.0, p.1.now)) result (spec.read_further (sign_of sign) tokens.now) }
+/// A plus or a minus, at a place.
+#[tactic(auto, unfolding(crate::specs::Reading::read_sign))]
+fn sign(place: Place, operator: &Token) -> Result<SignAt, NotPlain>
+    ensures { Finds sign_of result (spec.read_sign place operator.now) }
 {
-    let (item, rest) = item(tokens)?;
-    Ok((Further { sign, item }, rest))
+    match operator {
+        Token::Sign(Sign::SPlus) => Ok(SignAt {
+            place,
+            negative: false,
+        }),
+        Token::Sign(Sign::SMinus) => Ok(SignAt {
+            place,
+            negative: true,
+        }),
+        _ => Err(NotPlain),
+    }
 }
 
-/// The items of a list after the first, as many as come.
-fn others(alloc: Global, tokens: &[Placed]) -> Result<(Vec<Further<'_>>, &[Placed]), Stop>
-    ensures { Gives (λ p. (map further_of p.0.items, p.1.now)) result (many spec.further_step tokens.now) }
+/// An item behind others, with the operator before it. It has no sign of its own.
+#[tactic(auto, unfolding(crate::specs::Reading::read_further))]
+fn further(other: &(Place, Token, Expr)) -> Result<Further<'_>, NotPlain>
+    ensures { Finds further_of result (spec.read_further other.now) }
+{
+    let (place, operator, operand) = other;
+    let sign = sign(*place, operator)?;
+    match item(operand)? {
+        (None, item) => Ok(Further { sign, item }),
+        (Some(_), _) => Err(NotPlain),
+    }
+}
+
+/// Items behind others.
+fn others(alloc: Global, operands: &[(Place, Token, Expr)]) -> Result<Vec<Further<'_>>, Stop>
+    ensures { Gives (λ v. map further_of v.items) result (spec.read_others operands.now) }
 {
     let mut others = Vec::new(alloc);
-    let mut rest = tokens;
-    while let Some((sign, after)) = sign(rest) {
-        let (further, after) = further(sign, after)?;
+    for operand in operands {
+        let further = further(operand)?;
         others.push(further)?;
-        rest = after;
     }
-    Ok((others, rest))
+    Ok(others)
 }
 
-/// The sign before a list, if there is one, and what follows.
-#[tactic(auto, unfolding(crate::specs::Reader::read_first_sign))]
-fn first_sign(tokens: &[Placed]) -> (Option<SignAt>, &[Placed])
-    ensures { (option_map sign_of result.0, result.1.now) ≡ spec.read_first_sign tokens.now }
+/// A list: the sum of at least two items, or one item.
+#[tactic(auto, unfolding(crate::specs::Reading::read_sum))]
+fn sum(alloc: Global, tree: &Expr) -> Result<Sum<'_>, Stop>
+    ensures { Gives sum_of result (spec.read_sum tree.now) }
 {
-    match sign(tokens) {
-        Some((sign, rest)) => (Some(sign), rest),
-        None => (None, tokens),
+    match tree {
+        Expr::Plus(first, operands) => {
+            if operands.is_empty() {
+                return Err(Stop::Outside);
+            }
+            let (sign, first) = item(first.get())?;
+            let others = others(alloc, operands.as_slice())?;
+            Ok(Sum {
+                sign,
+                first,
+                others,
+            })
+        }
+        _ => {
+            let (sign, first) = item(tree)?;
+            let others = Vec::new(alloc);
+            Ok(Sum {
+                sign,
+                first,
+                others,
+            })
+        }
     }
 }
 
-/// A list.
-#[tactic(auto, unfolding(crate::specs::Reader::read_sum))]
-fn sum(alloc: Global, tokens: &[Placed]) -> Result<(Sum<'_>, &[Placed]), Stop>
-    ensures { Gives (λ p. (sum_of p.0, p.1.now)) result (spec.read_sum tokens.now) }
+/// The relation between the sides of a constraint.
+#[tactic(auto, unfolding(crate::specs::Reading::read_sense))]
+fn sense(relation: Relation) -> Result<Sense, NotPlain>
+    ensures { Finds (λ s. s) result (spec.read_sense relation) }
 {
-    let (sign, rest) = first_sign(tokens);
-    let (first, rest) = item(rest)?;
-    let (others, rest) = others(alloc, rest)?;
-    Ok((
-        Sum {
-            sign,
-            first,
-            others,
+    match relation {
+        Relation::AtMost => Ok(Sense::AtMost),
+        Relation::AtLeast => Ok(Sense::AtLeast),
+        Relation::EqualTo => Ok(Sense::Equal),
+        _ => Err(NotPlain),
+    }
+}
+
+/// What a constraint compares.
+#[tactic(auto, unfolding(crate::specs::Reading::read_constraint))]
+fn constraint<'a>(alloc: Global, head: Head<'a>, condition: &'a Expr) -> Result<Statement<'a>, Stop>
+    ensures { Gives statement_of result (spec.read_constraint (heading_of head.entry) condition.now) }
+{
+    match condition {
+        Expr::Compare(left, others) => match others.as_slice() {
+            [(at, relation, right)] => {
+                let left = sum(alloc, left.get())?;
+                let sense = sense(*relation)?;
+                let right = sum(alloc, right)?;
+                Ok(Statement::Constraint(head, left, sense, *at, right))
+            }
+            _ => Err(Stop::Outside),
         },
-        rest,
-    ))
-}
-
-/// The name behind a statement's first word, which stands at a place.
-#[tactic(auto, unfolding(crate::specs::Reader::read_head))]
-fn head(word: Place, tokens: &[Placed]) -> Result<(Head<'_>, &[Placed]), NotPlain>
-    ensures { Finds (λ p. (heading_of p.0, p.1.now)) result (spec.read_head word tokens.now) }
-{
-    let (at, name, rest) = name(tokens)?;
-    Ok((Head { word, at, name }, rest))
-}
-
-/// What follows `var`.
-#[tactic(auto, unfolding(crate::specs::Reader::read_variable))]
-fn variable(word: Place, tokens: &[Placed]) -> Result<(Statement<'_>, &[Placed]), NotPlain>
-    ensures { Finds (λ p. (statement_of p.0, p.1.now)) result (spec.read_variable word tokens.now) }
-{
-    let (head, rest) = head(word, tokens)?;
-    let (end, rest) = semicolon(rest)?;
-    Ok((Statement::Variable(head, end), rest))
-}
-
-/// What follows `minimize` or `maximize`.
-#[tactic(auto, unfolding(crate::specs::Reader::read_objective))]
-fn objective(
-    alloc: Global,
-    maximize: bool,
-    word: Place,
-    tokens: &[Placed],
-) -> Result<(Statement<'_>, &[Placed]), Stop>
-    ensures { Gives (λ p. (statement_of p.0, p.1.now)) result (spec.read_objective maximize word tokens.now) }
-{
-    let (head, rest) = head(word, tokens)?;
-    let (colon, rest) = colon(rest)?;
-    let (sum, rest) = sum(alloc, rest)?;
-    let (end, rest) = semicolon(rest)?;
-    Ok((Statement::Objective(maximize, head, colon, sum, end), rest))
-}
-
-/// What follows `subto`.
-#[tactic(auto, unfolding(crate::specs::Reader::read_constraint))]
-fn constraint(
-    alloc: Global,
-    word: Place,
-    tokens: &[Placed],
-) -> Result<(Statement<'_>, &[Placed]), Stop>
-    ensures { Gives (λ p. (statement_of p.0, p.1.now)) result (spec.read_constraint word tokens.now) }
-{
-    let (head, rest) = head(word, tokens)?;
-    let (colon, rest) = colon(rest)?;
-    let (left, rest) = sum(alloc, rest)?;
-    let (sense, at, rest) = sense(rest)?;
-    let (right, rest) = sum(alloc, rest)?;
-    let (end, rest) = semicolon(rest)?;
-    Ok((
-        Statement::Constraint(head, colon, left, sense, at, right, end),
-        rest,
-    ))
-}
-
-/// A statement, and the tokens behind it.
-#[tactic(auto, unfolding(crate::specs::Reader::read_statement))]
-pub fn statement(alloc: Global, tokens: &[Placed]) -> Result<(Statement<'_>, &[Placed]), Stop>
-    ensures { Gives (λ p. (statement_of p.0, p.1.now)) result (spec.read_statement tokens.now) }
-{
-    match tokens {
-        [
-            Placed {
-                token: Token::Word(Word::WVar),
-                place,
-            },
-            rest @ ..,
-        ] => Ok(variable(*place, rest)?),
-        [
-            Placed {
-                token: Token::Word(Word::WMinimize),
-                place,
-            },
-            rest @ ..,
-        ] => objective(alloc, false, *place, rest),
-        [
-            Placed {
-                token: Token::Word(Word::WMaximize),
-                place,
-            },
-            rest @ ..,
-        ] => objective(alloc, true, *place, rest),
-        [
-            Placed {
-                token: Token::Word(Word::WSubto),
-                place,
-            },
-            rest @ ..,
-        ] => constraint(alloc, *place, rest),
         _ => Err(Stop::Outside),
     }
+}
+
+/// What a statement says of its name.
+#[tactic(auto, unfolding(crate::specs::Reading::read_objective))]
+fn shape<'a>(alloc: Global, head: Head<'a>, shape: &'a Shape) -> Result<Statement<'a>, Stop>
+    ensures { Gives statement_of result (spec.shape_of (heading_of head.entry) shape.now) }
+{
+    match shape {
+        Shape::Var(None, None, limits, None, None) => {
+            if limits.is_empty() {
+                Ok(Statement::Variable(head))
+            } else {
+                Err(Stop::Outside)
+            }
+        }
+        Shape::Goal(maximize, objective) => {
+            let sum = sum(alloc, objective)?;
+            Ok(Statement::Objective(*maximize, head, sum))
+        }
+        Shape::Subto(condition) => constraint(alloc, head, condition),
+        _ => Err(Stop::Outside),
+    }
+}
+
+/// A statement of plain form. `Outside` comes exactly where the tree is that of none.
+pub fn statement(alloc: Global, tree: &Stmt) -> Result<Statement<'_>, Stop>
+    ensures { IsRead tree.now result }
+{
+    let head = Head {
+        word: tree.first,
+        at: tree.at,
+        name: &tree.name,
+    };
+    shape(alloc, head, &tree.shape)
 }

@@ -13,7 +13,7 @@ ghost use Rattle.zim_plain.specs.Sides.{PartAnswer, MadeAnswer, KnownAnswer, Hav
 use crate::numbers::{amount, past_at};
 use crate::parts::{Part, Side};
 use crate::statement::{Further, Item, SignAt, Sum};
-use crate::stop::ParseStop;
+use crate::stop::PlainStop;
 use crate::suits::column;
 use indexmap::IndexSet;
 use std::alloc::Global;
@@ -103,7 +103,7 @@ fn part(
 }
 
 /// The parts of a list, or its first number that is past.
-fn parts(alloc: Global, variables: &IndexSet<Bytes>, sum: &Sum<'_>) -> Result<Vec<Part>, ParseStop>
+fn parts(alloc: Global, variables: &IndexSet<Bytes>, sum: &Sum<'_>) -> Result<Vec<Part>, PlainStop>
     requires few { length variables.now.keys ≤ 1000000 }
     requires suits { SuitsSum variables.now.keys (sum_of sum.now) }
     ensures { MadeAnswer (parts_numbers_fault (sum_of sum.now)) (HavePartsOf variables.now.keys (sum_of sum.now)) result }
@@ -115,7 +115,7 @@ fn parts(alloc: Global, variables: &IndexSet<Bytes>, sum: &Sum<'_>) -> Result<Ve
         &sum.first,
     ) {
         Ok(first) => first,
-        Err(fault) => return Err(ParseStop::Fault(fault)),
+        Err(fault) => return Err(PlainStop::Fault(fault)),
     };
     let mut parts = Vec::new(alloc);
     parts.push(first)?;
@@ -127,7 +127,7 @@ fn parts(alloc: Global, variables: &IndexSet<Bytes>, sum: &Sum<'_>) -> Result<Ve
             &further.item,
         ) {
             Ok(part) => parts.push(part)?,
-            Err(fault) => return Err(ParseStop::Fault(fault)),
+            Err(fault) => return Err(PlainStop::Fault(fault)),
         }
     }
     Ok(parts)
@@ -162,7 +162,7 @@ pub fn read_side(
     alloc: Global,
     variables: &IndexSet<Bytes>,
     sum: &Sum<'_>,
-) -> Result<Side, ParseStop>
+) -> Result<Side, PlainStop>
     requires few { length variables.now.keys ≤ 1000000 }
     requires suits { SuitsSum variables.now.keys (sum_of sum.now) }
     ensures { MadeAnswer (numbers_fault (sum_of sum.now)) (IsSideOf variables.now.keys (sum_of sum.now)) result }
@@ -175,7 +175,7 @@ pub fn read_side(
     } else {
         match known(sum) {
             Ok(number) => Ok(Side::Known(number)),
-            Err(fault) => Err(ParseStop::Fault(fault)),
+            Err(fault) => Err(PlainStop::Fault(fault)),
         }
     }
 }

@@ -1,4 +1,4 @@
-//! The statements of plain form. Their texts stand in the tokens.
+//! The statements of plain form. Their texts stand in the trees.
 
 use zim_fault::{Bytes, Place};
 use zim_rows::Sense;
@@ -74,9 +74,9 @@ pub struct Head<'a> {
 #[derive(Debug, Drop)]
 pub enum Statement<'a> {
     /// `var name;`
-    Variable(Head<'a>, Place),
-    /// `minimize name: sum;`, or `maximize name: sum;` where it is to be maximised; with the places of colon and semicolon
-    Objective(bool, Head<'a>, Place, Sum<'a>, Place),
-    /// `subto name: left sense right;`, with the places of colon, relation and semicolon
-    Constraint(Head<'a>, Place, Sum<'a>, Sense, Place, Sum<'a>, Place),
+    Variable(Head<'a>),
+    /// `minimize name: sum;`, or `maximize name: sum;` where it is to be maximised
+    Objective(bool, Head<'a>, Sum<'a>),
+    /// `subto name: left sense right;`, with the place of the relation
+    Constraint(Head<'a>, Sum<'a>, Sense, Place, Sum<'a>),
 }

@@ -1,11 +1,11 @@
 ghost use Rattle.std.specs.Prelude.{◌≡◌};
 ghost use Rattle.zim_plain.specs.declared.stop.Stop.TheVariants.{OutOfMemory, Outside};
-ghost use Rattle.zim_plain.specs.declared.stop.ParseStop.TheVariants as parsing;
+ghost use Rattle.zim_plain.specs.declared.stop.PlainStop.TheVariants as stopped;
 
 use std::alloc::{AllocError, AllocFailed};
 use zim_fault::{Fault, Memory};
 
-/// The tokens that come next are not what plain form has there.
+/// The tree is not one that plain form has there.
 #[derive(Clone, Copy, Debug, PartialEq, Eq, Drop)]
 pub struct NotPlain;
 
@@ -50,44 +50,44 @@ impl<T: Drop> From<AllocFailed<T>> for Stop {
     }
 }
 
-/// Why tokens were not made a program.
+/// Why statements were not made a program.
 #[derive(Clone, Copy, Debug, PartialEq, Eq, Drop)]
-pub enum ParseStop {
-    /// The first fault of the statements: a statement that isn't of plain form, a number past 128 bits, or a row or a column
-    /// too many.
+pub enum PlainStop {
+    /// The first fault of the statements: one that isn't of plain form or may not follow those before it, a number past 128
+    /// bits, or a row or a column too many.
     Fault(Fault),
     /// Memory was refused.
     Memory,
 }
 
-impl From<Memory> for ParseStop {
-    ghost from_gives = { λ _ stop. stop ≡ parsing.Memory };
+impl From<Memory> for PlainStop {
+    ghost from_gives = { λ _ stop. stop ≡ stopped.Memory };
 
-    fn from(_refused: Memory) -> ParseStop {
-        ParseStop::Memory
+    fn from(_refused: Memory) -> PlainStop {
+        PlainStop::Memory
     }
 }
 
-impl From<AllocError> for ParseStop {
-    ghost from_gives = { λ _ stop. stop ≡ parsing.Memory };
+impl From<AllocError> for PlainStop {
+    ghost from_gives = { λ _ stop. stop ≡ stopped.Memory };
 
-    fn from(_refused: AllocError) -> ParseStop {
-        ParseStop::Memory
+    fn from(_refused: AllocError) -> PlainStop {
+        PlainStop::Memory
     }
 }
 
-impl<T: Drop> From<AllocFailed<T>> for ParseStop {
-    ghost from_gives = { λ _ stop. stop ≡ parsing.Memory };
+impl<T: Drop> From<AllocFailed<T>> for PlainStop {
+    ghost from_gives = { λ _ stop. stop ≡ stopped.Memory };
 
-    fn from(_refused: AllocFailed<T>) -> ParseStop {
-        ParseStop::Memory
+    fn from(_refused: AllocFailed<T>) -> PlainStop {
+        PlainStop::Memory
     }
 }
 
-impl From<Fault> for ParseStop {
-    ghost from_gives = { λ fault stop. stop ≡ parsing.Fault fault };
+impl From<Fault> for PlainStop {
+    ghost from_gives = { λ fault stop. stop ≡ stopped.Fault fault };
 
-    fn from(fault: Fault) -> ParseStop {
-        ParseStop::Fault(fault)
+    fn from(fault: Fault) -> PlainStop {
+        PlainStop::Fault(fault)
     }
 }

@@ -1,7 +1,7 @@
 -- The finished system says the model.
 use Rattle.std.proofs.Common.{refl}
 use Rattle.zim_plain.specs.Build.{built}
-use Rattle.zim_plain.proofs.ParseLaws.{says_model}
+use Rattle.zim_plain.proofs.ModelLaws.{says_model}
 use Rattle.zim_plain.proofs.plain_form.finish.Goals as goal
 
 pub returns-in-Ok : goal.returns-in-Ok

@@ -3,7 +3,7 @@ use Rattle.std.proofs.Common.{sym, ◌∙◌, ap, map, List}
 use Rattle.zim_plain.specs.declared.statement.Further as code
 use Rattle.zim_plain.specs.Reader.{further_of, sum_of}
 use Rattle.zim_plain.proofs.SuitLaws.{sum_first, sum_others}
-use Rattle.zim_plain.proofs.Faulting.{or_else_first}
+use Rattle.zim_plain.proofs.Faulting.{first_of_first}
 use Rattle.zim_plain.proofs.ReadLaws.{read_start, read_suits, read_step, read_stop, read_end}
 use Rattle.zim_plain.proofs.sides.parts.Goals as goal
 

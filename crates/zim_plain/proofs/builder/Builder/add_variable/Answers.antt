@@ -11,22 +11,22 @@ use Rattle.zim_rows.specs.System.{with_column, column_of}
 use Rattle.zim_plain.proofs.builder.Builder.add_variable.Goals as goal
 
 pub returns-then-is_taken-clause-adds : goal.returns-then-is_taken-clause-adds
-returns-then-is_taken-clause-adds c end before s =
-    refused before (Variable (heading_of c.args.head.now) end) (built c.args.self.now) c.unsuited.result c.unsuited.ensures
-    (taken_stays_out before (built c.args.self.now) (Variable (heading_of c.args.head.now) end) s (sym c.is_taken.ensures ∙ c.if-is_taken.true))
+returns-then-is_taken-clause-adds c before s =
+    refused before (Variable (heading_of c.args.head.now)) (built c.args.self.now) c.unsuited.result c.unsuited.ensures
+    (taken_stays_out before (built c.args.self.now) (Variable (heading_of c.args.head.now)) s (sym c.is_taken.ensures ∙ c.if-is_taken.true))
 
 pub returns-in-Err-clause-adds : goal.returns-in-Err-clause-adds
-returns-in-Err-clause-adds c end =
+returns-in-Err-clause-adds c =
     column_refused (built c.args.self.now)
     (record { variables = c.args.self.now.variables.keys; others = c.args.self.now.others.keys; statements = c.args.self.now.statements; objective = c.args.self.now.objective; system = c.new_column.new.self })
-    (heading_of c.args.head.now) end c.zero.result c.new_column.new.self c.in-Err.fault c.unadded.result c.requires (sym c.is_taken.ensures ∙ c.if-is_taken.false) c.in-Err.ensures c.unadded.ensures
+    (heading_of c.args.head.now) c.zero.result c.new_column.new.self c.in-Err.fault c.unadded.result c.requires (sym c.is_taken.ensures ∙ c.if-is_taken.false) c.in-Err.ensures c.unadded.ensures
 
 pub returns-clause-adds : goal.returns-clause-adds
-returns-clause-adds c end =
+returns-clause-adds c =
     let old = built c.args.self.now in
     let free = sym c.is_taken.ensures ∙ c.if-is_taken.false in
     let column = rw c.zero.ensures at c.in-Ok.ensures in
-    added_variable old _ (heading_of c.args.head.now) end
+    added_variable old _ (heading_of c.args.head.now)
     (built_variable old _ (heading_of c.args.head.now).name free
     (c.in_ok-insert.ensures.keys ∙ ap (insert_key (pointwise nat_eq) c.args.self.now.variables.keys) c.in_ok-copy.ensures)
     refl
