@@ -1,21 +1,17 @@
 -- The decimal text of a number is a field, and reads back as the number.
-use Rattle.std.proofs.Common.{◌≡◌, ℕ, suc, ◌<◌, ◌^◌, true, false, List, [], ◌∷◌, length, Some, ℤ, pos, negsuc, refl, ◌∙◌, ap, arith}
-use Rattle.std.specs.Prelude.{◌==◌, decimal, option_map, unsigned_abs}
+use Rattle.std.proofs.Common.{◌≡◌, ℕ, suc, ◌<◌, ◌^◌, true, false, List, [], ◌∷◌, length, Some, ℤ, pos, negsuc, refl, ap, arith}
+use Rattle.std.specs.Prelude.{◌==◌, decimal, unsigned_abs}
 use Rattle.std.specs.Fmt.{signed_decimal}
-use Rattle.std.specs.List.{AllByRecursion, All}
+use Rattle.std.specs.List.{AllByRecursion}
 use Rattle.std.specs.Char.{is_ascii_digit}
 use Rattle.std.specs.Str.{all_ascii_digits}
 use Rattle.std.specs.Str.Parse.{digits_value, starts_with_minus}
 use Rattle.std.proofs.lemmas.Fmt.{decimal_is_IsNumeral_wide}
 use Rattle.std.proofs.lemmas.Str.Parse.{IsNumeralModel, numerals_by_value, tells_all_ascii_digits}
-use Rattle.std.proofs.lemmas.List.Splits.{slice_split_none}
-use Rattle.std.proofs.lemmas.List.Elements.{All-cons, All-nil}
 use Rattle.std.proofs.lemmas.Bool.{and_parts}
 use Rattle.std.proofs.lemmas.Bool.Decides.{nat_tests}
-use Rattle.zim_rational.specs.Rational.{whole, ratio, negate, ratio_parts}
-use Rattle.zim_rational.proofs.Whole.{whole_negate}
 use Rattle.zim_fields.specs.Fields.{is_empty, IsPlainByte, IsField}
-use Rattle.zim_fields.specs.Numbers.{count_of, whole_of, unsigned_of, number_of}
+use Rattle.zim_fields.specs.Numbers.{count_of, whole_of}
 use Rattle.zim_fields.proofs.Cutting.{digits_plain}
 
 own : IsNumeralModel (λ ds. all_ascii_digits ds ≡ true) (digits_value 10)
@@ -66,30 +62,7 @@ no_minus : (ds : List ℕ) → all_ascii_digits ds ≡ true → starts_with_minu
 no_minus [] digits = refl
 no_minus (d ∷ ds) digits = no_minus_byte d (and_parts (is_ascii_digit d) (all_ascii_digits ds) digits).0
 
-no_point_byte : (b : ℕ) → is_ascii_digit b ≡ true → (b == 46) ≡ false
-no_point_byte b digit = grind (arith, nat_tests)
-
-no_points : (ds : List ℕ) → all_ascii_digits ds ≡ true → All (λ b. (b == 46) ≡ false) ds
-no_points [] digits = All-nil (λ b. (b == 46) ≡ false)
-no_points (d ∷ ds) digits =
-    let both = and_parts (is_ascii_digit d) (all_ascii_digits ds) digits in
-    All-cons (λ b. (b == 46) ≡ false) d ds (no_point_byte d both.0) (no_points ds both.1)
-
 -- a whole number reads back
 pub whole_of-signed : (z : ℤ) → unsigned_abs z < 10 ^ 64 → whole_of (signed_decimal z) ≡ Some z
 whole_of-signed (pos n) h = rw (no_minus (decimal n) (decimal_digits n h), count_of-decimal n h) refl
 whole_of-signed (negsuc n) h = rw (count_of-decimal (suc n) h) refl
-
--- a whole number over 1
-pub ratio_whole : (z : ℤ) → ratio z 1 ≡ whole z
-unfolding whole
-ratio_whole z = ratio_parts (whole z)
-
-unsigned_of-decimal : (n : ℕ) → n < 10 ^ 64 → unsigned_of (decimal n) ≡ Some (whole (pos n))
-unsigned_of-decimal n h =
-    rw (slice_split_none (λ b. b == 46) (decimal n) (no_points (decimal n) (decimal_digits n h)), count_of-decimal n h) (ap (λ q. Some q) (ratio_whole (pos n)))
-
--- and reads back as a fraction
-pub number_of-signed : (z : ℤ) → unsigned_abs z < 10 ^ 64 → number_of (signed_decimal z) ≡ Some (whole z)
-number_of-signed (pos n) h = rw (no_minus (decimal n) (decimal_digits n h)) (unsigned_of-decimal n h)
-number_of-signed (negsuc n) h = ap (option_map negate) (unsigned_of-decimal (suc n) h) ∙ ap (λ q. Some q) (whole_negate (pos (suc n)))
