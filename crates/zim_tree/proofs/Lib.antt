@@ -10,3 +10,7 @@ pub mod PlacedAnew
 pub mod FirstToken
 pub mod StatementPlacedAnew
 pub mod NodeLemmas
+pub mod MadeLemmas
+pub mod StatementMadeLemmas
+pub mod MadeParts
+pub mod StatementMadeParts

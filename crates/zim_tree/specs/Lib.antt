@@ -9,3 +9,6 @@ pub mod StatementGrammar
 pub mod Plain
 pub mod PlainStatement
 pub mod FirstPlace
+pub mod Made
+pub mod StatementMade
+pub mod MadeLaw

@@ -7,6 +7,7 @@ mod copy;
 mod copy_stmt;
 mod expr;
 mod first_place;
+mod law;
 mod spell;
 mod spell_stmt;
 mod speller;
@@ -14,5 +15,6 @@ mod stmt;
 
 pub use classes::{Class, class_of};
 pub use expr::{Angle, Body, Expr, Index};
+pub use law::tight_trees_are_made;
 pub use spell_stmt::spelled;
 pub use stmt::{Bracket, Doing, Limit, ParSide, Printed, Reading, SetSide, Shape, Stmt, Table};
