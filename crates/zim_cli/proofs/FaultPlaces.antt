@@ -16,7 +16,7 @@ use Rattle.zim_lex.specs.Statements.{ends_statement, spans_from, statements_of}
 use Rattle.zim_lex.specs.Tokens.{placed_token, tokens_at, AreTokens, none, more, IsFirstStuck, here, later}
 use Rattle.zim_tree.specs.declared.stmt.Stmt.{Stmt}
 use Rattle.zim_tree.specs.PlainStatement.{replaced_statement}
-use Rattle.zim_parse.specs.Scan.{Accepts}
+use Rattle.zim_parse.specs.Answers.{Accepts}
 use Rattle.zim_parse.proofs.OneAnswer.{fault_is_at_token}
 use Rattle.zim_parse.proofs.Meaning.{places_are_of_tokens}
 use Rattle.zim_plain.specs.Answers.{IsFirstFault}

@@ -4,7 +4,7 @@ use Rattle.std.proofs.lemmas.List.{take_more}
 use Rattle.zim_fault.specs.declared.tokens.Placed.{Placed}
 use Rattle.zim_lex.specs.declared.lines.Span.{Span}
 use Rattle.zim_tree.specs.declared.stmt.Stmt.{Stmt}
-use Rattle.zim_parse.specs.Scan.{Accepts, Parses}
+use Rattle.zim_parse.specs.Answers.{Accepts, Parses}
 use Rattle.zim_parse.specs.declared.fault.ParseFault.{ParseFault}
 use Rattle.zim_parse.specs.declared.fault.ParseFault.TheVariants as parsing
 use Rattle.zim_cli.specs.Parsed.{segment, AreParsed, ParsedAnswer}

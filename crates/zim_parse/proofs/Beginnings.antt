@@ -7,7 +7,8 @@ use Rattle.zim_tree.specs.declared.classes.Class.{Class}
 use Rattle.zim_tree.specs.declared.classes.Class.TheVariants as class
 use Rattle.zim_tree.specs.Levels.{Level, primary, postfix, power, unary, product, big, loop, term, sum, comparison, negation, conjunction, disjunction, whole, Chain, products, sums, relations, conjunctions, disjunctions, level_of, operand_of, exclamations, is_function, is_loop}
 use Rattle.zim_tree.specs.Grammar.{Reads, ReadsIndex, a_number, a_text, a_truth, an_infinity, a_name, an_item, a_bare_call, a_call, a_function, a_projection, in_parentheses, in_braces, an_if, an_if_with_else, a_postfix, no_power, a_power, no_sign, a_sign, a_big, no_loop_sign, a_loop_sign, a_product, a_loop as a_looping_term, a_product_with_loop, a_chain, a_member, no_not, a_not as a_negation, no_forall, a_forall as a_for_all, a_tuple, an_index, an_index_with}
-use Rattle.zim_parse.specs.Next.{begins_paren, begins_loop, starts_loop, Start, an_operand, a_signed, a_loop, a_signed_loop, a_less, a_not, a_forall, start_at, start_of, is_open, class_at}
+use Rattle.zim_scan.specs.Nesting.{begins_paren, class_at}
+use Rattle.zim_parse.specs.Next.{begins_loop, starts_loop, Start, an_operand, a_signed, a_loop, a_signed_loop, a_less, a_not, a_forall, start_at, start_of, is_open}
 
 pub no : {A : Type 0} → false ≡ true → A
 no h = absurd (true≢false (sym h))

@@ -13,7 +13,8 @@ use Rattle.zim_tree.specs.declared.classes.Class.{Class}
 use Rattle.zim_tree.specs.declared.classes.Class.TheVariants as class
 use Rattle.zim_tree.specs.Trees.{angle_of, index_of}
 use Rattle.zim_tree.specs.Levels.{sum, disjunction, placed, condition_token, span_token}
-use Rattle.zim_parse.specs.Next.{class_at, start_at, start_of, is_in}
+use Rattle.zim_scan.specs.Nesting.{class_at}
+use Rattle.zim_parse.specs.Next.{start_at, start_of, is_in}
 use Rattle.zim_parse.specs.Parser.{Inner, Parser, and_then, expect, flag_of, span_in, tuple_of, index_from, body_at, body_behind, body_tuple, body_of, parse}
 use Rattle.zim_parse.proofs.Beginnings.{no, is_term}
 use Rattle.zim_parse.proofs.ListSteps.{Listed, last_item, next_item, no_comma, listed_more, listed_none}

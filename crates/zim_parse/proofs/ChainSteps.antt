@@ -14,7 +14,8 @@ use Rattle.zim_tree.specs.declared.classes.Class.TheVariants as class
 use Rattle.zim_tree.specs.Trees.{angle_of}
 use Rattle.zim_tree.specs.Classes.{token_class}
 use Rattle.zim_tree.specs.Levels.{sum, comparison, negation, disjunction, whole, Chain, products, sums, relations, conjunctions, disjunctions, level_of, operand_of, joins, Limits, Operands, joined, placed, separator_token}
-use Rattle.zim_parse.specs.Next.{class_at, looseness, rank, bound, Start, a_less, start_at, start_of, is_open, opens}
+use Rattle.zim_scan.specs.Nesting.{class_at}
+use Rattle.zim_parse.specs.Next.{looseness, rank, bound, Start, a_less, start_at, start_of, is_open, opens}
 use Rattle.zim_parse.specs.Parser.{Inner, Parser, and_then, operands_of, turns_of, chain_of, sum_of, member_of, comparison_at, comparison_of, negation_at, negation_of, whole_at, whole_of, disjunction_of, at_level, parse}
 use Rattle.zim_parse.proofs.Beginnings.{no, is_term, is_compared, is_joined, allowed, factor_not_open}
 use Rattle.zim_parse.proofs.ListSteps.{joins_rank, operand_below, level_rank, no_operator, one_operator}

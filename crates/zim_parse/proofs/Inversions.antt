@@ -13,7 +13,8 @@ use Rattle.zim_tree.specs.declared.classes.Class.{Class}
 use Rattle.zim_tree.specs.Classes.{token_class}
 use Rattle.zim_tree.specs.Levels.{Level, placed, separator_token, condition_token, span_token}
 use Rattle.zim_tree.specs.Grammar.{Reads, ReadsList, ReadsTuple, ReadsTuples, the_last, one_more, the_last_tuple, one_more_tuple}
-use Rattle.zim_parse.specs.Next.{class_at, is_left_paren, is_right_paren, is_right_bracket, is_right_brace, is_comma, is_less, is_greater, is_in, is_then, is_else, is_end, is_by}
+use Rattle.zim_scan.specs.Nesting.{class_at, is_left_paren}
+use Rattle.zim_parse.specs.Next.{is_right_paren, is_right_bracket, is_right_brace, is_comma, is_less, is_greater, is_in, is_then, is_else, is_end, is_by}
 use Rattle.zim_parse.specs.Parser.{Parser, Parsed, and_then, expect, flagged, flag_of, separator_in, condition_in, span_in, after_comma, items_behind, items_of}
 use Rattle.zim_parse.proofs.Beginnings.{no}
 

@@ -14,7 +14,8 @@ use Rattle.zim_tree.specs.declared.classes.Class.TheVariants as class
 use Rattle.zim_tree.specs.Classes.{token_class, sign_class}
 use Rattle.zim_tree.specs.Levels.{Level, postfix, power, unary, product, Chain, products, sums, relations, conjunctions, disjunctions, level_of, operand_of, joins, Limits, Operands, placed, exclamations, sign_token_of, exponent_sign}
 use Rattle.zim_tree.specs.Grammar.{Reads, ReadsOperands, a_postfix, no_power, a_power, no_sign, a_sign, a_chain, no_operand, an_operand}
-use Rattle.zim_parse.specs.Next.{class_at, class_looseness, looseness, rank, is_exclamation, opens}
+use Rattle.zim_scan.specs.Nesting.{class_at}
+use Rattle.zim_parse.specs.Next.{class_looseness, looseness, rank, is_exclamation, opens}
 use Rattle.zim_parse.specs.Parser.{Inner, Parser, and_then, sign_in, is_minus, marks_of, postfix_of, signed_of, sign_before, power_at, power_behind, power_of, sign_or, signed_or, unary_of, operands_of, turns_of, chain_of, product_of}
 use Rattle.zim_parse.proofs.Beginnings.{no}
 use Rattle.zim_parse.proofs.Inversions.{then_parts, answer, Split, Got, concluded, prefixed, appended, infixed, Sound}

@@ -13,7 +13,8 @@ use Rattle.zim_tree.specs.declared.classes.Class.{Class}
 use Rattle.zim_tree.specs.declared.classes.Class.TheVariants as class
 use Rattle.zim_tree.specs.Classes.{token_class, word_class, sign_class}
 use Rattle.zim_tree.specs.Levels.{primary, postfix, power, unary, product, big, loop, term, factorial, placed, exclamations, sign_token_of, exponent_sign, separator_token, is_loop}
-use Rattle.zim_parse.specs.Next.{class_at, class_looseness, looseness, bound, a_signed, a_signed_loop, start_at, start_of, is_exclamation, is_open, opens}
+use Rattle.zim_scan.specs.Nesting.{class_at}
+use Rattle.zim_parse.specs.Next.{class_looseness, looseness, bound, a_signed, a_signed_loop, start_at, start_of, is_exclamation, is_open, opens}
 use Rattle.zim_parse.specs.Parser.{Inner, Parser, and_then, marks_of, postfix_of, signed_of, sign_before, power_at, power_behind, power_of, sign_or, signed_or, big_of, term_behind, term_of, parse}
 use Rattle.zim_parse.proofs.Beginnings.{no, is_plain, is_factor, is_bare_loop, factor_not_open}
 use Rattle.zim_parse.proofs.PrimarySteps.{Complete, CompleteIndex, deeper}

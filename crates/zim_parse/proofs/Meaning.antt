@@ -13,7 +13,7 @@ use Rattle.zim_tree.specs.PlainStatement.{replaced_statement, plain_statement}
 use Rattle.zim_tree.proofs.StatementDerivationSpelling.{statement-spelling}
 use Rattle.zim_tree.proofs.ReplacedStatements.{statement_replaced}
 use Rattle.zim_tree.proofs.StatementPlacedAnew.{SomeStatement, statement_of_same}
-use Rattle.zim_parse.specs.Scan.{Refuses, an_unsupported_word, too_deep, no_statement, Accepts}
+use Rattle.zim_parse.specs.Answers.{Refuses, an_unsupported_word, too_deep, no_statement, Accepts}
 use Rattle.zim_parse.specs.SpellingLaw.{IsSpelledBy, IsInBounds, PlacesAreOfTokens, ReadIsSpelled, SpelledIsRead, MeansWhatIsSpelled}
 use Rattle.zim_parse.proofs.WholeStatement.{same_statement}
 use Rattle.zim_parse.proofs.OneStatement.{one_statement}

@@ -8,8 +8,10 @@ use Rattle.zim_fault.specs.declared.faults.Place.{Place}
 use Rattle.zim_fault.specs.declared.kinds.Kind.TheVariants.{Unsupported, Deep}
 use Rattle.zim_fault.specs.declared.tokens.Placed.{Placed}
 use Rattle.zim_fault.specs.declared.words.Word.{Word}
-use Rattle.zim_parse.specs.Next.{class_at}
-use Rattle.zim_parse.specs.Scan.{refused_in, refused_or, first_refused, open_behind, loops_behind, deepest, first_deep, fault_at, an_unsupported_word, too_deep, no_statement}
+use Rattle.zim_scan.specs.Nesting.{class_at}
+use Rattle.zim_scan.specs.Refused.{refused_in, refused_or, first_refused}
+use Rattle.zim_scan.specs.Nesting.{open_behind, loops_behind, deepest, first_deep}
+use Rattle.zim_parse.specs.Answers.{fault_at, an_unsupported_word, too_deep, no_statement}
 use Rattle.zim_parse.specs.AnswerLaw.{AcceptedAsOne, AcceptedIsNotRefused, RefusedWithOne, places_of, FaultIsAtToken}
 use Rattle.zim_parse.proofs.WholeStatement.{same_statement}
 

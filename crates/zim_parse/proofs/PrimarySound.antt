@@ -19,7 +19,8 @@ use Rattle.zim_tree.specs.Trees.{index_of}
 use Rattle.zim_tree.specs.Classes.{token_class, word_class, sign_class}
 use Rattle.zim_tree.specs.Levels.{Level, primary, sum, disjunction, whole, placed, condition_token, span_token, truth_token, if_token, is_function}
 use Rattle.zim_tree.specs.Grammar.{Reads, ReadsList, ReadsTuple, ReadsIndex, ReadsBody, a_number, a_text, a_truth, an_infinity, a_name, an_item, a_bare_call, a_call, a_function, a_projection, in_parentheses, in_braces, an_if, an_if_with_else, a_tuple, an_index, an_index_with, nothing, the_members, the_tuples, the_choices, a_span, a_span_by}
-use Rattle.zim_parse.specs.Next.{class_at, is_left_paren, is_right_paren, is_in, is_else, is_by}
+use Rattle.zim_scan.specs.Nesting.{class_at, is_left_paren}
+use Rattle.zim_parse.specs.Next.{is_right_paren, is_in, is_else, is_by}
 use Rattle.zim_parse.specs.Parser.{Inner, Parsed, and_then, expect, flag_of, condition_in, span_in, is_true, is_vif, items_of, tuple_of, index_end, index_behind, index_from, span_end, body_behind, body_tuple, body_at, body_of, arguments, call_end, name_at, named, if_end, if_from, function_from, projection_from, word_at, sign_at, primary_at, primary_of}
 use Rattle.zim_parse.proofs.Beginnings.{no}
 use Rattle.zim_parse.proofs.Inversions.{then_parts, answer, Split, Got, concluded, prefixed, appended, single, infixed, enclosed, got_left_paren, got_right_paren, got_right_bracket, got_right_brace, got_comma, got_less, got_greater, got_in, got_then, got_else, got_end, got_by, got_condition, got_span, list_of_commaed, tuples_of_commaed, Sound, more_items, got_items}

@@ -16,7 +16,8 @@ use Rattle.zim_tree.specs.declared.classes.Class.TheVariants as class
 use Rattle.zim_tree.specs.Trees.{angle_of, index_of}
 use Rattle.zim_tree.specs.Classes.{word_class}
 use Rattle.zim_tree.specs.Levels.{Level, primary, postfix, power, unary, product, big, loop, term, sum, comparison, negation, conjunction, disjunction, whole, placed, condition_token, truth_token, if_token, is_function}
-use Rattle.zim_parse.specs.Next.{class_at, class_looseness, looseness, bound, start_at, start_of, is_right_paren, opens}
+use Rattle.zim_scan.specs.Nesting.{class_at}
+use Rattle.zim_parse.specs.Next.{class_looseness, looseness, bound, start_at, start_of, is_right_paren, opens}
 use Rattle.zim_parse.specs.Parser.{Inner, and_then, expect, flag_of, condition_in, items_of, tuple_of, index_behind, index_from, body_of, arguments, name_at, named, if_from, function_from, projection_from, word_at, primary_of, at_level, parse}
 use Rattle.zim_parse.proofs.Beginnings.{no, is_joined}
 use Rattle.zim_parse.proofs.ListSteps.{Listed, last_item, next_item, no_comma, listed_items}

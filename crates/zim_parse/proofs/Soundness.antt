@@ -13,7 +13,8 @@ use Rattle.zim_tree.specs.declared.classes.Class.TheVariants as class
 use Rattle.zim_tree.specs.Classes.{token_class, word_class}
 use Rattle.zim_tree.specs.Levels.{Level, primary, postfix, power, unary, product, big, loop, term, sum, comparison, negation, conjunction, disjunction, whole, sums, relations, conjunctions, disjunctions, placed, separator_token, is_loop}
 use Rattle.zim_tree.specs.Grammar.{Reads, a_big, no_loop_sign, a_loop_sign, a_product, a_loop, a_product_with_loop, a_member, no_not, a_not, no_forall, a_forall}
-use Rattle.zim_parse.specs.Next.{class_at, class_looseness, looseness, Start, a_less, start_of, opens}
+use Rattle.zim_scan.specs.Nesting.{class_at}
+use Rattle.zim_parse.specs.Next.{class_looseness, looseness, Start, a_less, start_of, opens}
 use Rattle.zim_parse.specs.Parser.{Inner, and_then, flag_of, separator_in, word_in, index_from, big_of, loop_of, term_behind, term_of, sum_of, member_of, comparison_at, comparison_of, negation_at, negation_of, conjunction_of, disjunction_of, whole_at, whole_of, at_level, parse}
 use Rattle.zim_parse.proofs.Beginnings.{no}
 use Rattle.zim_parse.proofs.Inversions.{then_parts, answer, Split, Got, concluded, prefixed, infixed, got_in, got_separator, Sound}

@@ -4,14 +4,14 @@ use Rattle.zim_fault.specs.declared.faults.Place.{Place}
 use Rattle.zim_fault.specs.declared.tokens.Placed.{Placed}
 use Rattle.zim_tree.specs.declared.expr.Expr.{Expr}
 use Rattle.zim_tree.specs.declared.expr.Expr.TheVariants as tree
-use Rattle.zim_tree.specs.declared.expr.Index.{Index}
 use Rattle.zim_tree.specs.declared.stmt.Bracket.{Bracket}
 use Rattle.zim_tree.specs.declared.stmt.Bracket.TheVariants as bracket
 use Rattle.zim_tree.specs.declared.classes.Class.{Class}
 use Rattle.zim_tree.specs.declared.classes.Class.TheVariants as class
-use Rattle.zim_tree.specs.Levels.{relations, sum, disjunction, whole}
-use Rattle.zim_parse.specs.Next.{class_at, is_right_bracket, is_else, is_end, opens, looseness, class_looseness, Start, an_operand, a_signed, a_loop, a_signed_loop, a_less, a_not, a_forall, nothing, start_of}
-use Rattle.zim_parse.specs.Parser.{Parsed, Parser, Inner, and_then, expect, body_of, index_from, named, name_at, if_end, power_of, power_at, power_behind, signed_or, sign_or, sign_before, signed_of, unary_of, postfix_of, primary_of, term_of, big_of, loop_of, term_behind, sum_of, chain_of, member_of, comparison_of, comparison_at, negation_of, negation_at, disjunction_of, whole_of, whole_at}
+use Rattle.zim_tree.specs.Levels.{relations, sum, whole}
+use Rattle.zim_scan.specs.Nesting.{class_at}
+use Rattle.zim_parse.specs.Next.{is_right_bracket, is_else, is_end, opens, looseness, class_looseness, Start, a_less, start_of}
+use Rattle.zim_parse.specs.Parser.{Parsed, Parser, Inner, and_then, expect, body_of, index_from, named, name_at, if_end, power_of, power_at, power_behind, signed_or, sign_or, sign_before, signed_of, unary_of, postfix_of, primary_of, term_of, big_of, loop_of, term_behind, sum_of, chain_of, member_of, comparison_of, comparison_at, negation_of, negation_at, whole_of, whole_at}
 use Rattle.zim_parse.specs.StatementParser.{bracket_of, bracket_at, printed_of, printed_at}
 use Rattle.zim_parse.specs.Outcome.{class_next, is_less_start, is_not, is_forall}
 use Rattle.zim_parse.specs.Steps.{body_by, otherwise, else_found, exponent_of, operator_of, loop_behind, signed_by, not_found, forall_found, forall_behind}

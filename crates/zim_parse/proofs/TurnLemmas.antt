@@ -7,7 +7,8 @@ use Rattle.zim_fault.specs.declared.words.Word.{Word}
 use Rattle.zim_tree.specs.declared.expr.Expr.{Expr}
 use Rattle.zim_tree.specs.declared.stmt.Limit.{Limit}
 use Rattle.zim_tree.specs.Levels.{Chain, products, sums, relations, conjunctions, disjunctions, Operands, joined, sum}
-use Rattle.zim_parse.specs.Next.{class_at, is_comma, is_exclamation, looseness, rank}
+use Rattle.zim_scan.specs.Nesting.{class_at}
+use Rattle.zim_parse.specs.Next.{is_comma, is_exclamation, looseness, rank}
 use Rattle.zim_parse.specs.Parser.{Parsed, Parser, Inner, and_then, expect, after_comma, items_behind, operands_of, turns_of, chain_of, marks_of}
 use Rattle.zim_parse.specs.StatementParser.{option_or, options_of, option_in, limit_or, limits_of, limit_in, expect_token, is_bar, row_of, rows_of}
 use Rattle.zim_parse.specs.Outcome.{found_at}

@@ -6,7 +6,9 @@ use Rattle.zim_tree.specs.declared.stmt.Stmt.{Stmt}
 use Rattle.zim_tree.specs.StatementGrammar.{ReadsStatement}
 use Rattle.zim_fault.specs.declared.kinds.Kind.TheVariants.{Syntax}
 use Rattle.zim_parse.specs.Parser.{parse}
-use Rattle.zim_parse.specs.Scan.{first_refused, first_deep, fault_at, Refuses, no_statement}
+use Rattle.zim_scan.specs.Refused.{first_refused}
+use Rattle.zim_scan.specs.Nesting.{first_deep}
+use Rattle.zim_parse.specs.Answers.{fault_at, Refuses, no_statement}
 use Rattle.zim_parse.specs.StatementParser.{statement_of}
 use Rattle.zim_parse.proofs.OneStatement.{parser_reads_statements}
 

@@ -5,7 +5,7 @@ use Rattle.zim_fault.specs.declared.faults.Place.{Place}
 use Rattle.zim_fault.specs.declared.faults.Fault.{Fault}
 use Rattle.zim_fault.specs.declared.tokens.Placed.{Placed}
 use Rattle.zim_tree.specs.declared.stmt.Stmt.{Stmt}
-use Rattle.zim_parse.specs.Scan.{Accepts, Refuses}
+use Rattle.zim_parse.specs.Answers.{Accepts, Refuses}
 
 -- tokens are accepted as one statement at most
 abbrev pub AcceptedAsOne : Type 0

@@ -7,7 +7,7 @@ pub mod Outcome
 pub mod Turns
 pub mod Steps
 pub mod StatementSteps
-pub mod Scan
+pub mod Answers
 pub mod AnswerLaw
 pub mod SpellingLaw
 pub mod GroupingLaw

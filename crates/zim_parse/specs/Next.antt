@@ -3,17 +3,8 @@ use Rattle.std.specs.Prelude.{ℕ, List, [], ◌∷◌, Bool, true, false, not, 
 use Rattle.zim_fault.specs.declared.tokens.Placed.{Placed}
 use Rattle.zim_tree.specs.declared.classes.Class.{Class}
 use Rattle.zim_tree.specs.declared.classes.Class.TheVariants as class
-use Rattle.zim_tree.specs.Classes.{token_class}
+use Rattle.zim_scan.specs.Nesting.{class_at, begins_paren}
 use Rattle.zim_tree.specs.Levels.{Level, primary, postfix, power, unary, product, big, loop, term, sum, comparison, negation, conjunction, disjunction, whole, Chain, products, sums, relations, conjunctions, disjunctions}
-
--- the class of a token at a place
-abbrev pub class_at : Placed → Class
-class_at t = token_class t.token
-
--- `(`
-abbrev pub is_left_paren : Class → Bool
-is_left_paren class.LeftParen = true
-is_left_paren _ = false
 
 -- `)`
 abbrev pub is_right_paren : Class → Bool
@@ -74,11 +65,6 @@ is_by _ = false
 abbrev pub is_exclamation : Class → Bool
 is_exclamation class.Exclamation = true
 is_exclamation _ = false
-
--- whether a `(` comes next
-abbrev pub begins_paren : List Placed → Bool
-begins_paren [] = false
-begins_paren (t ∷ rest) = is_left_paren (class_at t)
 
 -- whether the word of a loop comes next: `min` and `max` before a `(` are none
 abbrev pub begins_loop : Class → List Placed → Bool

@@ -1,5 +1,5 @@
 -- What a function that parses answers: what the parser of the definitions reads, unless memory fails.
-use Rattle.std.specs.Prelude.{◌≡◌, ℕ, List, [], ◌∷◌, ◌++◌, Bool, true, false, Option, Some, None, Result, Ok, Err}
+use Rattle.std.specs.Prelude.{◌≡◌, ℕ, List, [], ◌∷◌, Bool, true, false, Option, Some, None, Result, Ok, Err}
 use Rattle.std.specs.declared.alloc.Global.{Global}
 use denote.Ref.{MutBor}
 use Rattle.zim_fault.specs.declared.faults.Place.{Place}
@@ -17,8 +17,9 @@ use Rattle.zim_parse.specs.declared.failure.Failure.{Failure}
 use Rattle.zim_parse.specs.declared.failure.Failure.TheVariants.{Syntax}
 use Rattle.zim_parse.specs.declared.grammar.Wanted.{Wanted}
 use Rattle.zim_parse.specs.declared.grammar.Wanted.TheVariants as wanted
-use Rattle.zim_parse.specs.Next.{class_at, Start, a_less, is_left_paren, is_right_paren, is_right_bracket, is_right_brace, is_comma, is_less, is_greater, is_in, is_then, is_else, is_end, is_by, is_exclamation}
-use Rattle.zim_parse.specs.Parser.{Parsed, Parser, and_then, parse}
+use Rattle.zim_scan.specs.Nesting.{class_at, is_left_paren}
+use Rattle.zim_parse.specs.Next.{Start, a_less, is_right_paren, is_right_bracket, is_right_brace, is_comma, is_less, is_greater, is_in, is_then, is_else, is_end, is_by, is_exclamation}
+use Rattle.zim_parse.specs.Parser.{Parsed, parse}
 use Rattle.zim_parse.specs.StatementParser.{is_semicolon, is_assign, is_colon, is_left_bracket, is_left_brace, is_bar, is_read, is_as, is_default, is_priority, is_startval}
 
 -- what was read and what is left, or nothing; where memory fails, nothing is said

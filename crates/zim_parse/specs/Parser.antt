@@ -19,7 +19,8 @@ use Rattle.zim_tree.specs.declared.classes.Class.TheVariants as class
 use Rattle.zim_tree.specs.Trees.{angle_of, index_of}
 use Rattle.zim_tree.specs.Classes.{word_class, sign_class}
 use Rattle.zim_tree.specs.Levels.{Level, primary, postfix, power, unary, product, big, loop, term, sum, comparison, negation, conjunction, disjunction, whole, Chain, products, sums, relations, conjunctions, disjunctions, Operands, joined, factorial, is_loop}
-use Rattle.zim_parse.specs.Next.{class_at, is_left_paren, is_right_paren, is_right_bracket, is_right_brace, is_comma, is_less, is_greater, is_in, is_then, is_else, is_end, is_by, is_exclamation, start_of, a_less, Start, opens, looseness, rank}
+use Rattle.zim_scan.specs.Nesting.{class_at, is_left_paren}
+use Rattle.zim_parse.specs.Next.{is_right_paren, is_right_bracket, is_right_brace, is_comma, is_less, is_greater, is_in, is_then, is_else, is_end, is_by, is_exclamation, start_of, a_less, Start, opens, looseness, rank}
 
 -- a tree and the tokens behind it, or nothing
 abbrev pub Parsed : Type 0 → Type 0

@@ -10,7 +10,9 @@ use Rattle.zim_tree.specs.Spelling.{Tokens}
 use Rattle.zim_tree.specs.StatementSpelling.{spelled_of}
 use Rattle.zim_tree.specs.StatementGrammar.{ReadsStatement}
 use Rattle.zim_tree.specs.PlainStatement.{replaced_statement, plain_statement}
-use Rattle.zim_parse.specs.Scan.{first_refused, first_deep, fault_at, Accepts, Refuses}
+use Rattle.zim_scan.specs.Refused.{first_refused}
+use Rattle.zim_scan.specs.Nesting.{first_deep}
+use Rattle.zim_parse.specs.Answers.{fault_at, Accepts, Refuses}
 use Rattle.zim_parse.specs.StatementLaw.{TightStatement}
 
 -- tokens without their places

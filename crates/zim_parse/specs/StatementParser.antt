@@ -31,7 +31,8 @@ use Rattle.zim_tree.specs.declared.classes.Class.TheVariants as class
 use Rattle.zim_tree.specs.Classes.{word_class}
 use Rattle.zim_tree.specs.Levels.{unary, sum, disjunction, whole}
 use Rattle.zim_tree.specs.StatementGrammar.{is_option, is_skip, is_use, is_comment, is_kind}
-use Rattle.zim_parse.specs.Next.{is_left_paren, is_right_paren, is_right_bracket, is_right_brace, is_in, Start, a_less, start_of}
+use Rattle.zim_scan.specs.Nesting.{is_left_paren}
+use Rattle.zim_parse.specs.Next.{is_right_paren, is_right_bracket, is_right_brace, is_in, Start, a_less, start_of}
 use Rattle.zim_parse.specs.Parser.{Parsed, Parser, Inner, and_then, expect, flag_of, separator_in, items_of, tuple_of, index_from, arguments}
 
 -- one token that passes a test, for its place

@@ -1,7 +1,6 @@
 -- The parts of the rules of statements that have a function of their own.
 use Rattle.std.specs.Prelude.{ℕ, suc, List, [], ◌∷◌, length, count_by, Bool, false, not, ◌&&◌, Option, Some, None, nat_le, nat_eq, if◌then◌else◌}
 use Rattle.zim_fault.specs.declared.faults.Place.{Place}
-use Rattle.zim_fault.specs.declared.tokens.Placed.{Placed}
 use Rattle.zim_fault.specs.declared.words.Word.{Word}
 use Rattle.zim_fault.specs.declared.words.Word.TheVariants as word
 use Rattle.zim_tree.specs.declared.expr.Expr.{Expr}
@@ -23,7 +22,7 @@ use Rattle.zim_tree.specs.declared.stmt.Bracket.{Bracket}
 use Rattle.zim_tree.specs.declared.stmt.Bracket.TheVariants as bracket
 use Rattle.zim_parse.specs.Next.{is_in, start_of}
 use Rattle.zim_parse.specs.Outcome.{is_less_start}
-use Rattle.zim_parse.specs.Parser.{Parsed, Parser, Inner, and_then, expect, items_of, tuple_of, index_from}
+use Rattle.zim_parse.specs.Parser.{Parser, Inner, and_then, expect, items_of, tuple_of, index_from}
 use Rattle.zim_parse.specs.StatementParser.{expect_token, is_priority, is_startval, options_of, each_once, rows_of, given_of, limits_kept, is_assign, is_colon, is_bar, is_read, is_default, sees, begins_read, set_read, set_value, entry_of, set_side_of, par_value, par_read_alone, par_side_of, par_default, par_table, par_read, par_entries, brackets_of, set_brackets_of, name_of, declared_of, doing_of, doing_at, printed_tuple}
 
 -- what a parameter over a set is declared to be

@@ -1,16 +1,15 @@
 -- The parts of the parser's rules that have a function of their own.
-use Rattle.std.specs.Prelude.{ℕ, suc, List, [], ◌∷◌, length, Bool, Option, Some, None, nat_eq, if◌then◌else◌}
+use Rattle.std.specs.Prelude.{ℕ, List, [], ◌∷◌, Bool, Option, Some, None, nat_eq, if◌then◌else◌}
 use Rattle.zim_fault.specs.declared.faults.Place.{Place}
 use Rattle.zim_fault.specs.declared.tokens.Placed.{Placed}
 use Rattle.zim_fault.specs.declared.words.Word.{Word}
 use Rattle.zim_tree.specs.declared.expr.Expr.{Expr}
 use Rattle.zim_tree.specs.declared.expr.Expr.TheVariants as tree
-use Rattle.zim_tree.specs.declared.expr.Angle.{Angle}
 use Rattle.zim_tree.specs.declared.expr.Body.{Body}
 use Rattle.zim_tree.specs.declared.classes.Class.{Class}
 use Rattle.zim_tree.specs.declared.classes.Class.TheVariants as class
-use Rattle.zim_tree.specs.Levels.{Level, term, sum, whole}
-use Rattle.zim_parse.specs.Next.{class_at, is_right_paren, is_right_bracket, is_in, is_else, is_end, is_by, looseness}
+use Rattle.zim_tree.specs.Levels.{term, sum, whole}
+use Rattle.zim_parse.specs.Next.{is_right_paren, is_right_bracket, is_in, is_else, is_end, is_by, looseness}
 use Rattle.zim_parse.specs.Parser.{Parsed, Parser, Inner, and_then, expect, flag_of, separator_in, span_in, sign_in, items_of, tuple_of, index_from, span_end, body_behind, body_tuple, body_at, call_end, postfix_of, signed_of, loop_of, comparison_of, disjunction_of}
 
 -- a span behind its `..` or `to`

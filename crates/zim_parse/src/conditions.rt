@@ -11,6 +11,7 @@ ghost use Rattle.zim_parse.specs.Turns.{repeat, operand_turn};
 
 use crate::failure::Failure;
 use crate::grammar::{Grammar, Wanted};
+use crate::next::{CONJUNCTION, DISJUNCTION, RELATION};
 use crate::tokens::Tokens;
 use sqlite_items::{Boxed, Items};
 use std::alloc::{AllocError, Global};
@@ -86,7 +87,7 @@ impl<F: Fn(Global, &mut Tokens<'_>, usize, Wanted) -> Result<Expr, Failure>> Gra
         requires { Nests self.now.depth (F.pre self.now.inner) (F.post self.now.inner) }
         ensures { Gives (operand_turn turns.as_compared relations (spec.sum_of (parse self.now.depth)) tokens.old) result tokens.new }
     {
-        let Some(operator) = tokens.operator(7) else {
+        let Some(operator) = tokens.operator(RELATION) else {
             return Ok(None);
         };
         let operand = self.sum(tokens)?;
@@ -165,7 +166,7 @@ impl<F: Fn(Global, &mut Tokens<'_>, usize, Wanted) -> Result<Expr, Failure>> Gra
         requires { Nests self.now.depth (F.pre self.now.inner) (F.post self.now.inner) }
         ensures { Gives (operand_turn turns.as_conjunct conjunctions (spec.negation_of (parse self.now.depth)) tokens.old) result tokens.new }
     {
-        let Some(operator) = tokens.operator(8) else {
+        let Some(operator) = tokens.operator(CONJUNCTION) else {
             return Ok(None);
         };
         let operand = self.negation(tokens)?;
@@ -204,7 +205,7 @@ impl<F: Fn(Global, &mut Tokens<'_>, usize, Wanted) -> Result<Expr, Failure>> Gra
         requires { Nests self.now.depth (F.pre self.now.inner) (F.post self.now.inner) }
         ensures { Gives (operand_turn turns.as_disjunct disjunctions (spec.conjunction_of (parse self.now.depth)) tokens.old) result tokens.new }
     {
-        let Some(operator) = tokens.operator(9) else {
+        let Some(operator) = tokens.operator(DISJUNCTION) else {
             return Ok(None);
         };
         let operand = self.conjunction(tokens)?;

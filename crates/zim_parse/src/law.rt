@@ -4,8 +4,8 @@ ghost use Rattle.zim_parse.specs.Law.{OneTree, ParserReads};
 ghost use Rattle.zim_parse.specs.SpellingLaw.{MeansWhatIsSpelled, PlacesAreOfTokens, ReadIsSpelled, SpelledIsRead};
 ghost use Rattle.zim_parse.specs.StatementLaw.{OneStatement, ParserReadsStatements};
 
-/// Nothing to run: the contract is the law that a list of tokens spells at most one expression, but for
-/// its places.
+/// Nothing to run: the contract is the law that a list of tokens spells at most one tight expression, one
+/// that the grammar derives from some tokens, but for its places.
 pub fn expressions_are_unique()
     ensures { OneTree }
 {}
@@ -16,8 +16,8 @@ pub fn parser_reads_expressions()
     ensures { ParserReads }
 {}
 
-/// Nothing to run: the contract is the law that a list of tokens spells at most one statement, but for
-/// its places.
+/// Nothing to run: the contract is the law that a list of tokens spells at most one tight statement, one
+/// that the grammar derives from some tokens, but for its places.
 pub fn statements_are_unique()
     ensures { OneStatement }
 {}

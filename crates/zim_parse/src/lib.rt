@@ -16,7 +16,6 @@ mod powers;
 mod primary;
 mod products;
 mod reading;
-mod scan;
 mod sides;
 mod statement;
 mod tokens;

@@ -8,6 +8,7 @@ ghost use Rattle.zim_parse.specs.StatementParser as statement;
 ghost use Rattle.zim_tree.specs.Classes.{word_class};
 
 use zim_fault::{Placed, Sign, Token, Word};
+use zim_scan::begins_paren;
 use zim_tree::{Class, class_of};
 
 /// Whether the found class is the wanted one, of those that a rule names.
@@ -97,16 +98,6 @@ pub fn word_in(token: &Token) -> Word
     }
 }
 
-/// Whether a `(` comes next.
-pub fn begins_paren(tokens: &[Placed]) -> bool
-    ensures { result ≡ spec.begins_paren tokens.now }
-{
-    match tokens {
-        [] => false,
-        [first, ..] => matches!(class_of(&first.token), Class::LeftParen),
-    }
-}
-
 /// Whether the word of a loop comes first: `min` and `max` before a `(` are none.
 fn starts_loop(tokens: &[Placed]) -> bool
     ensures { result ≡ spec.starts_loop tokens.now }
@@ -136,19 +127,41 @@ pub fn opens(tokens: &[Placed]) -> bool
     }
 }
 
-/// How loosely an operator of this class binds, where a loop opens behind it or not; 10 is none.
+/// How loosely a power binds. What binds closer has a smaller number.
+pub const POWER: usize = 3;
+/// How loosely an operator like `*` binds.
+pub const PRODUCT: usize = 4;
+/// How loosely an operator like `*` binds where a loop, with or without a sign, comes behind it.
+pub const PRODUCT_WITH_LOOP: usize = 5;
+/// How loosely an operator like `+` binds.
+pub const SUM: usize = 6;
+/// How loosely a relation binds.
+pub const RELATION: usize = 7;
+/// How loosely `and` binds.
+pub const CONJUNCTION: usize = 8;
+/// How loosely `or` and `xor` bind.
+pub const DISJUNCTION: usize = 9;
+
+/// How loosely an operator of this class binds, where a loop opens behind it or not; 1 and 2 stand for brackets and `!`
+/// behind an operand, 10 for what is no operator.
 pub fn class_looseness(class: Class, open_behind: bool) -> usize
     ensures { result ≡ spec.class_looseness class open_behind }
 {
     match class {
         Class::LeftBracket | Class::LeftParen => 1,
         Class::Exclamation => 2,
-        Class::Power => 3,
-        Class::Product => { if open_behind { 5 } else { 4 } }
-        Class::PlusOrMinus | Class::OtherSum => 6,
-        Class::Less | Class::Greater | Class::OtherRelation => 7,
-        Class::And => 8,
-        Class::OrOrXor => 9,
+        Class::Power => POWER,
+        Class::Product => {
+            if open_behind {
+                PRODUCT_WITH_LOOP
+            } else {
+                PRODUCT
+            }
+        }
+        Class::PlusOrMinus | Class::OtherSum => SUM,
+        Class::Less | Class::Greater | Class::OtherRelation => RELATION,
+        Class::And => CONJUNCTION,
+        Class::OrOrXor => DISJUNCTION,
         _ => 10,
     }
 }

@@ -1,14 +1,14 @@
 ghost use Rattle.std.specs.Prelude.{◌<◌, length};
-ghost use Rattle.zim_parse.specs.Scan.{Parses, WholeGives};
+ghost use Rattle.zim_parse.specs.Answers.{Parses, WholeGives};
 
 use crate::failure::Failure;
 use crate::fault::ParseFault;
 use crate::grammar::Grammar;
 use crate::levels::expression;
-use crate::scan::{first_deep, first_refused};
 use crate::tokens::Tokens;
 use std::alloc::Global;
 use zim_fault::{Fault, Kind, Placed};
+use zim_scan::{first_deep, first_refused};
 use zim_tree::Stmt;
 
 /// The statement that all the tokens spell.
@@ -28,10 +28,11 @@ fn whole_statement(alloc: Global, tokens: &[Placed]) -> Result<Stmt, Failure>
     Ok(stmt)
 }
 
-/// The one statement that the tokens spell, its `;` among them, with the places that they give its parts.
+/// The one tight statement that the tokens spell, its `;` among them, with the places that they give its
+/// parts. A statement is tight where the grammar derives it from some tokens.
 ///
 /// The fault is `Unsupported` at the first refused word; else `Deep` at the first token at which nesting
-/// passes 200; else, where no statement is spelled so, `Syntax` at the statement's first token. Nesting is
+/// passes 200; else, where no tight statement is spelled so, `Syntax` at the statement's first token. Nesting is
 /// the number of open `(`, `[`, `{`, `if` and `vif`, a closing `)`, `]`, `}` or `end` taking one off but
 /// never below 0, and of the loops that have begun: `forall`, `sum`, `prod`, `argmin`, `argmax`, and `min`
 /// and `max` where no `(` follows. A loop counts to the end of the statement.

@@ -10,7 +10,7 @@ ghost use Rattle.zim_parse.specs.Steps as steps;
 use crate::failure::Failure;
 use crate::grammar::{Grammar, Wanted};
 use crate::marks::marks;
-use crate::next::sign_in;
+use crate::next::{POWER, sign_in};
 use crate::tokens::Tokens;
 use sqlite_items::{Boxed, Items};
 use std::alloc::{AllocError, Global};
@@ -69,7 +69,7 @@ impl<F: Fn(Global, &mut Tokens<'_>, usize, Wanted) -> Result<Expr, Failure>> Gra
         ensures { Gives (spec.power_of (parse self.now.depth) tokens.old) result tokens.new }
     {
         let base = self.postfix(tokens)?;
-        match tokens.operator(3) {
+        match tokens.operator(POWER) {
             None => Ok(base),
             Some(operator) => self.exponent(tokens, base, operator),
         }

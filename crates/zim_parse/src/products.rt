@@ -11,7 +11,7 @@ ghost use Rattle.zim_parse.specs.Turns.{repeat, operand_turn};
 
 use crate::failure::Failure;
 use crate::grammar::{Grammar, Wanted};
-use crate::next::word_in;
+use crate::next::{PRODUCT, PRODUCT_WITH_LOOP, SUM, word_in};
 use crate::tokens::Tokens;
 use sqlite_items::{Boxed, Items};
 use std::alloc::{AllocError, Global};
@@ -67,7 +67,7 @@ impl<F: Fn(Global, &mut Tokens<'_>, usize, Wanted) -> Result<Expr, Failure>> Gra
         requires { Nests self.now.depth (F.pre self.now.inner) (F.post self.now.inner) }
         ensures { Gives (operand_turn turns.as_operand products (spec.unary_of (parse self.now.depth)) tokens.old) result tokens.new }
     {
-        let Some(operator) = tokens.operator(4) else {
+        let Some(operator) = tokens.operator(PRODUCT) else {
             return Ok(None);
         };
         let operand = self.unary(tokens)?;
@@ -170,7 +170,7 @@ impl<F: Fn(Global, &mut Tokens<'_>, usize, Wanted) -> Result<Expr, Failure>> Gra
             return self.signed_loop(tokens);
         }
         let first = self.product(tokens)?;
-        match tokens.operator(5) {
+        match tokens.operator(PRODUCT_WITH_LOOP) {
             None => Ok(first),
             Some(operator) => self.times_loop(tokens, first, operator),
         }
@@ -182,7 +182,7 @@ impl<F: Fn(Global, &mut Tokens<'_>, usize, Wanted) -> Result<Expr, Failure>> Gra
         requires { Nests self.now.depth (F.pre self.now.inner) (F.post self.now.inner) }
         ensures { Gives (operand_turn turns.as_operand sums (spec.term_of (parse self.now.depth)) tokens.old) result tokens.new }
     {
-        let Some(operator) = tokens.operator(6) else {
+        let Some(operator) = tokens.operator(SUM) else {
             return Ok(None);
         };
         let operand = self.term(tokens)?;

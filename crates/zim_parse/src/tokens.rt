@@ -6,7 +6,7 @@ ghost use Rattle.zim_parse.specs.Parser as spec;
 ghost use Rattle.zim_parse.specs.StatementParser as stmt_spec;
 
 use crate::failure::Failure;
-use crate::next::{begins_paren, class_looseness, is_class, is_minus, is_sign, is_word, opens};
+use crate::next::{class_looseness, is_class, is_minus, is_sign, is_word, opens};
 use std::marker::Model;
 use zim_fault::{Place, Placed, Sign, Token, Word};
 use zim_tree::{Class, class_of};
@@ -61,13 +61,6 @@ impl<'a> Tokens<'a> {
         }
     }
 
-    /// Whether a `(` comes next.
-    pub fn begins_paren(&self) -> bool
-        ensures { result ≡ next.begins_paren self.now }
-    {
-        begins_paren(self.rest)
-    }
-
     /// Whether a loop, with or without a sign, comes next.
     pub fn opens(&self) -> bool
         ensures { result ≡ next.opens self.now }
@@ -89,11 +82,12 @@ impl<'a> Tokens<'a> {
     }
 
     /// Takes the next token where it is an operator that binds so loosely.
-    pub fn operator(&mut self, rank: usize) -> Option<&'a Placed>
-        ensures { MatchOption result ((operator_of rank self.old ≡ None) × (self.new ≡ self.old)) (λ first. operator_of rank self.old ≡ Some (first.now, self.new)) }
+    pub fn operator(&mut self, looseness: usize) -> Option<&'a Placed>
+        ensures { MatchOption result ((operator_of looseness self.old ≡ None) × (self.new ≡ self.old)) (λ first. operator_of looseness self.old ≡ Some (first.now, self.new)) }
     {
         match self.rest {
-            [first, rest @ ..] if class_looseness(class_of(&first.token), opens(rest)) == rank => {
+            [first, rest @ ..]
+                if class_looseness(class_of(&first.token), opens(rest)) == looseness => {
                 self.rest = rest;
                 Some(first)
             }

@@ -1,5 +1,4 @@
 use Rattle.zim_parse.proofs.TurnLemmas.{marks_begin, marks_stop, marks_go_on, marks_end}
-use Rattle.zim_parse.proofs.StepLemmas.{body_next, printed_next}
 use Rattle.zim_parse.proofs.marks.marks.Goals as goal
 
 pub loop-turn-init : goal.loop-turn-init

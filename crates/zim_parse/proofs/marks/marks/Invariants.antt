@@ -1,5 +1,5 @@
 -- The places so far, and those that the turns that are left read.
-use Rattle.std.proofs.Common.{◌≡◌, ◌-◌, length, Some}
+use Rattle.std.proofs.Common.{◌≡◌, ◌-◌, Some}
 use Rattle.zim_parse.specs.Parser.{marks_of}
 use Rattle.zim_parse.specs.Turns.{repeat, prepend, mark_turn}
 use Rattle.zim_parse.proofs.marks.marks.Given as goal

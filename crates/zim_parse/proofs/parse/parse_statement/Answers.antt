@@ -1,6 +1,6 @@
 -- The three faults in their order.
 use Rattle.std.proofs.Common.{sym}
-use Rattle.zim_parse.specs.Scan.{an_unsupported_word, too_deep}
+use Rattle.zim_parse.specs.Answers.{an_unsupported_word, too_deep}
 use Rattle.zim_parse.proofs.WholeParse.{refused_at_first}
 use Rattle.zim_parse.proofs.parse.parse_statement.Goals as goal
 

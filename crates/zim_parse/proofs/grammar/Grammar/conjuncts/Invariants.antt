@@ -1,5 +1,5 @@
 -- The operators so far, and those that the turns that are left read.
-use Rattle.std.proofs.Common.{◌≡◌, ◌-◌, length, Some}
+use Rattle.std.proofs.Common.{◌≡◌, ◌-◌, length}
 use Rattle.zim_tree.specs.Levels.{conjunctions}
 use Rattle.zim_parse.specs.Parser.{parse, negation_of}
 use Rattle.zim_parse.specs.Turns.{repeat, prepend, operand_turn, as_conjunct}

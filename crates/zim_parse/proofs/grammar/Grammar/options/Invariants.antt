@@ -1,5 +1,5 @@
 -- The options so far, and those that the turns that are left read.
-use Rattle.std.proofs.Common.{◌≡◌, ◌-◌, length, Some}
+use Rattle.std.proofs.Common.{◌≡◌, ◌-◌, length}
 use Rattle.zim_parse.specs.Parser.{parse}
 use Rattle.zim_parse.specs.StatementParser.{options_of}
 use Rattle.zim_parse.specs.Turns.{repeat, prepend, option_turn}

@@ -1,5 +1,5 @@
 -- The items so far, and those that the turns that are left read.
-use Rattle.std.proofs.Common.{◌≡◌, ◌-◌, length, Some}
+use Rattle.std.proofs.Common.{◌≡◌, ◌-◌, length}
 use Rattle.zim_parse.specs.Parser.{parse, items_behind}
 use Rattle.zim_parse.specs.StatementParser.{printed_of}
 use Rattle.zim_parse.specs.Turns.{repeat, prepend, comma_turn}

@@ -1,5 +1,5 @@
 -- The rows so far, and those that the turns that are left read.
-use Rattle.std.proofs.Common.{◌≡◌, ◌-◌, length, Some}
+use Rattle.std.proofs.Common.{◌≡◌, ◌-◌}
 use Rattle.zim_parse.specs.Parser.{parse}
 use Rattle.zim_parse.specs.StatementParser.{rows_of}
 use Rattle.zim_parse.specs.Turns.{prepend}

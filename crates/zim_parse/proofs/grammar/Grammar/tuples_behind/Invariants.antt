@@ -1,5 +1,5 @@
 -- The items so far, and those that the turns that are left read.
-use Rattle.std.proofs.Common.{◌≡◌, ◌-◌, length, Some}
+use Rattle.std.proofs.Common.{◌≡◌, ◌-◌, length}
 use Rattle.zim_parse.specs.Parser.{parse, tuple_of, items_behind}
 use Rattle.zim_parse.specs.Turns.{repeat, prepend, comma_turn}
 use Rattle.zim_parse.proofs.grammar.Grammar.tuples_behind.Given as goal
