@@ -1,0 +1,4 @@
+pub mod TokenNesting
+pub mod Depth
+pub mod Counts
+pub mod Law
