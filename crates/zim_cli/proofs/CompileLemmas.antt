@@ -29,7 +29,7 @@ use Rattle.zim_tree.specs.declared.stmt.Stmt.{Stmt}
 use Rattle.zim_cli.specs.declared.stop.ReadStop.{ReadStop}
 use Rattle.zim_cli.specs.declared.stop.ReadStop.TheVariants as reading
 use Rattle.zim_cli.specs.Compile.{WhereTold, HasSystem, Makes, made, refused, unread, no_memory, Compiles}
-use Rattle.zim_cli.specs.Lexed.{LinesBreak, stuck, left_open, unparsed, broken, LinesParseTo, LinesAnswer}
+use Rattle.zim_cli.specs.Lexed.{LinesBreak, stuck, left_open, unparsed, broken, LinesRead, StatementsAnswer, LinesParseTo, LinesAnswer}
 use Rattle.zim_cli.specs.Parsed.{AreParsed, ParsedAnswer}
 use Rattle.zim_plain.specs.Answers.{PlainAnswer}
 use Rattle.zim_cli.specs.Reading.{IsRefusedFor, not_loaded, not_a_model}
@@ -60,29 +60,33 @@ parsed_broken lines placed spans r e fault are cut is stop answer =
     unparsed placed spans fault are cut (subst (λ (x : Result (List Stmt) ParseFault). ParsedAnswer placed spans x) (is ∙ ap Err stop) answer)
 
 -- the statements' answer, where it is a model and where it is none
-pub lines_parsed : (lines : List Line) (placed : List Placed) (spans : List Span) (trees : List Stmt) (r : Result PlainModel PlainStop) (read : PlainModel) → AreTokens lines placed → statements_of placed ≡ Ok spans →
-    AreParsed placed spans trees → r ≡ Ok read → PlainAnswer trees r → LinesParseTo lines read
-lines_parsed lines placed spans trees r read are cut parsed is answer =
+pub lines_parsed : (lines : List Line) (trees : List Stmt) (r : Result PlainModel PlainStop) (read : PlainModel) → LinesRead lines trees → r ≡ Ok read → PlainAnswer trees r → LinesParseTo lines read
+lines_parsed lines trees r read were is answer =
     at (subst (λ (x : Result PlainModel PlainStop). PlainAnswer trees x) is answer)
   where
     at : PlainAnswer trees (Ok read) → LinesParseTo lines read
     at (model, trees_are, plain, says) = record {
       model = model;
       spell = record {
-        placed = placed;
-        tokens = are;
-        spans = spans;
-        cut = cut;
-        parsed = subst (λ (ts : List Stmt). AreParsed placed spans ts) trees_are parsed;
+        placed = were.placed;
+        tokens = were.tokens;
+        spans = were.spans;
+        cut = were.cut;
+        parsed = subst (λ (ts : List Stmt). AreParsed were.placed were.spans ts) trees_are were.parsed;
         accepted = record { plain = plain; system = says.system; system_is = says.system_is; faultless = says.faultless };
       };
       says = says;
     }
 
-pub lines_broken : (lines : List Line) (placed : List Placed) (spans : List Span) (trees : List Stmt) (r : Result PlainModel PlainStop) (e : PlainStop) (fault : Fault) → AreTokens lines placed → statements_of placed ≡ Ok spans →
-    AreParsed placed spans trees → r ≡ Err e → e ≡ stopped.Fault fault → PlainAnswer trees r → LinesBreak lines fault
-lines_broken lines placed spans trees r e fault are cut parsed is stop answer =
-    broken placed spans trees fault are cut parsed (subst (λ (x : Result PlainModel PlainStop). PlainAnswer trees x) (is ∙ ap Err stop) answer)
+pub lines_broken : (lines : List Line) (trees : List Stmt) (r : Result PlainModel PlainStop) (e : PlainStop) (fault : Fault) → LinesRead lines trees → r ≡ Err e → e ≡ stopped.Fault fault →
+    PlainAnswer trees r → LinesBreak lines fault
+lines_broken lines trees r e fault were is stop answer =
+    broken were.placed were.spans trees fault were.tokens were.cut were.parsed (subst (λ (x : Result PlainModel PlainStop). PlainAnswer trees x) (is ∙ ap Err stop) answer)
+
+-- where no statements were read, the answer is that of the lines
+pub passed_on : (lines : List Line) (stop : ReadStop) → StatementsAnswer lines (Err stop) → LinesAnswer lines (Err stop)
+passed_on lines (reading.Refused fault) breaks = breaks
+passed_on lines reading.Memory free = tt
 
 -- what is so of told files is so of them in another way
 pub where_map : (held : Option Files) (name : List ℕ) (P Q : Files → List ℕ → Type 0) → ((files : Files) (name : List ℕ) → P files name → Q files name) → WhereTold held name P → WhereTold held name Q

@@ -34,6 +34,20 @@ pub data LinesBreak (lines : List Line) : Fault → Type 0 where
   broken : (placed : List Placed) (spans : List Span) (trees : List Stmt) (fault : Fault) → AreTokens lines placed → statements_of placed ≡ Ok spans →
       AreParsed placed spans trees → IsFirstFault trees fault → LinesBreak lines fault
 
+-- The tokens of lines, cut after each semicolon, are these statements.
+pub record LinesRead (lines : List Line) (trees : List Stmt) : Type 0 where
+  pub placed : List Placed
+  pub tokens : AreTokens lines placed
+  pub spans : List Span
+  pub cut : statements_of placed ≡ Ok spans
+  pub parsed : AreParsed placed spans trees
+
+-- The lines were read as statements, or they have a first fault, or memory was refused.
+abbrev pub StatementsAnswer : List Line → Result (List Stmt) ReadStop → Type 0
+StatementsAnswer lines (Ok trees) = LinesRead lines trees
+StatementsAnswer lines (Err (reading.Refused fault)) = LinesBreak lines fault
+StatementsAnswer lines (Err reading.Memory) = Unit {0}
+
 -- The lines spell a model, whose system this is.
 pub record LinesParseTo (lines : List Line) (read : PlainModel) : Type 0 where
   pub model : Model

@@ -1,18 +1,21 @@
 ghost use Rattle.zim_cli.specs.Compile.{Compiles};
-ghost use Rattle.zim_cli.specs.Lexed.{LinesAnswer};
+ghost use Rattle.zim_cli.specs.Lexed.{LinesAnswer, StatementsAnswer};
 
 use crate::ending::Ending;
 use crate::parsing::parsed_statements;
 use crate::stop::ReadStop;
+use sqlite_items::Items;
 use std::alloc::Global;
 use zim_gate::Folder;
 use zim_lex::{LexFault, Line, LoadFault, Loaded, lex, load, statements};
 use zim_parse::ParseFault;
 use zim_plain::{PlainModel, PlainStop, plain_model};
+use zim_tree::Stmt;
 
-/// The system of the model whose lines these are, or their first fault.
-fn system_of_lines(alloc: Global, lines: &[Line]) -> Result<PlainModel, ReadStop>
-    ensures { LinesAnswer lines.now result }
+/// The statements that these lines spell, or the first fault of their pieces, of what no semicolon ends, or of a statement that
+/// the grammar refuses. The tokens are let go, so that they aren't held beside the system.
+fn statements_of_lines(alloc: Global, lines: &[Line]) -> Result<Items<Stmt>, ReadStop>
+    ensures { StatementsAnswer lines.now result }
 {
     let tokens = match lex(alloc, lines) {
         Ok(tokens) => tokens,
@@ -24,10 +27,20 @@ fn system_of_lines(alloc: Global, lines: &[Line]) -> Result<PlainModel, ReadStop
         Err(LexFault::Fault(fault)) => return Err(ReadStop::Refused(fault)),
         Err(LexFault::Memory) => return Err(ReadStop::Memory),
     };
-    let parsed = match parsed_statements(alloc, tokens.as_slice(), spans.as_slice()) {
+    match parsed_statements(alloc, tokens.as_slice(), spans.as_slice()) {
+        Ok(parsed) => Ok(parsed),
+        Err(ParseFault::Fault(fault)) => Err(ReadStop::Refused(fault)),
+        Err(ParseFault::Memory) => Err(ReadStop::Memory),
+    }
+}
+
+/// The system of the model whose lines these are, or their first fault.
+fn system_of_lines(alloc: Global, lines: &[Line]) -> Result<PlainModel, ReadStop>
+    ensures { LinesAnswer lines.now result }
+{
+    let parsed = match statements_of_lines(alloc, lines) {
         Ok(parsed) => parsed,
-        Err(ParseFault::Fault(fault)) => return Err(ReadStop::Refused(fault)),
-        Err(ParseFault::Memory) => return Err(ReadStop::Memory),
+        Err(stop) => return Err(stop),
     };
     match plain_model(alloc, parsed.as_slice()) {
         Ok(system) => Ok(system),

@@ -1,53 +1,19 @@
--- Each first fault, and the system.
-use Rattle.std.proofs.Common.{◌≡◌, List, Ok, ap, sym, ◌∙◌, subst}
-use Rattle.zim_fault.specs.declared.tokens.Placed.{Placed}
-use Rattle.zim_answer.specs.Gives.{Gives}
-use Rattle.zim_lex.specs.Causes.{lex_cause}
-use Rattle.zim_lex.specs.Statements.{statements_of}
+-- The system, and each first fault.
+use Rattle.std.proofs.Common.{List, subst}
 use Rattle.zim_tree.specs.declared.stmt.Stmt.{Stmt}
 use Rattle.zim_plain.specs.Answers.{PlainAnswer}
-use Rattle.zim_cli.specs.Parsed.{AreParsed}
-use Rattle.zim_cli.proofs.SpanLemmas.{spans_within}
-use Rattle.zim_cli.proofs.CompileLemmas.{lexed_stuck, cut_open, answer_over, parsed_broken, lines_parsed, lines_broken}
+use Rattle.zim_cli.proofs.CompileLemmas.{lines_parsed, lines_broken, passed_on}
 use Rattle.zim_cli.proofs.compiling.system_of_lines.Goals as goal
 
-pub returns-in-Err-Fault : goal.returns-in-Err-Fault
-returns-in-Err-Fault c =
-    rw c.in-Err-Fault.fault-is
-    (lexed_stuck c.args.lines.now c.lex.result c.in-Err-Fault.field-0 c.in-Err-Fault.fault c.in-Err-Fault.is c.in-Err-Fault.field-0-is c.lex.ensures.stuck)
-
-pub returns-in-Err-Fault-statements : goal.returns-in-Err-Fault-statements
-returns-in-Err-Fault-statements c =
-    rw c.in-Err-Fault-statements.fault-is
-    (cut_open (λ spans. spans.items) c.args.lines.now c.in-Ok.tokens.items c.statements.result c.in-Err-Fault-statements.field-0 c.in-Err-Fault-statements.fault c.in-Ok.ensures.tokens c.in-Err-Fault-statements.is c.in-Err-Fault-statements.field-0-is
-    (subst (λ (ts : List Placed). Gives (λ spans. spans.items) lex_cause (statements_of ts) c.statements.result) c.as_slice.ensures.value c.statements.ensures))
-
-pub parsed_statements-requires : goal.parsed_statements-requires
-parsed_statements-requires c =
-    let cut : statements_of c.in-Ok.tokens.items ≡ Ok c.in-Ok-statements.spans.items = ap statements_of (sym c.as_slice.ensures.value) ∙ c.in-Ok-statements.ensures in
-    rw (c.as_slice-3.ensures.value, c.as_slice-2.ensures.value) (spans_within c.in-Ok.tokens.items c.in-Ok-statements.spans.items cut)
-
-pub returns-in-Err-Fault-parsed_statements : goal.returns-in-Err-Fault-parsed_statements
-returns-in-Err-Fault-parsed_statements c =
-    let cut : statements_of c.in-Ok.tokens.items ≡ Ok c.in-Ok-statements.spans.items = ap statements_of (sym c.as_slice.ensures.value) ∙ c.in-Ok-statements.ensures in
-    rw c.in-Err-Fault-parsed_statements.fault-is
-    (parsed_broken c.args.lines.now c.in-Ok.tokens.items c.in-Ok-statements.spans.items c.parsed_statements.result c.in-Err-Fault-parsed_statements.field-0 c.in-Err-Fault-parsed_statements.fault c.in-Ok.ensures.tokens cut
-    c.in-Err-Fault-parsed_statements.is c.in-Err-Fault-parsed_statements.field-0-is
-    (answer_over c.as_slice-2.result.now c.in-Ok.tokens.items c.as_slice-3.result.now c.in-Ok-statements.spans.items c.parsed_statements.result c.as_slice-2.ensures.value c.as_slice-3.ensures.value c.parsed_statements.ensures))
+pub returns-in-Err : goal.returns-in-Err
+returns-in-Err c = passed_on c.args.lines.now c.in-Err.stop c.in-Err.ensures
 
 pub returns-in-Ok-plain_model : goal.returns-in-Ok-plain_model
 returns-in-Ok-plain_model c =
-    let cut : statements_of c.in-Ok.tokens.items ≡ Ok c.in-Ok-statements.spans.items = ap statements_of (sym c.as_slice.ensures.value) ∙ c.in-Ok-statements.ensures in
-    let parsed : AreParsed c.in-Ok.tokens.items c.in-Ok-statements.spans.items c.in-Ok-parsed_statements.parsed =
-    answer_over c.as_slice-2.result.now c.in-Ok.tokens.items c.as_slice-3.result.now c.in-Ok-statements.spans.items (Ok c.in-Ok-parsed_statements.parsed) c.as_slice-2.ensures.value c.as_slice-3.ensures.value c.in-Ok-parsed_statements.ensures in
-    lines_parsed c.args.lines.now c.in-Ok.tokens.items c.in-Ok-statements.spans.items c.in-Ok-parsed_statements.parsed c.plain_model.result c.in-Ok-plain_model.system c.in-Ok.ensures.tokens cut parsed c.in-Ok-plain_model.is
-    (subst (λ (trees : List Stmt). PlainAnswer trees c.plain_model.result) c.as_slice-4.ensures c.plain_model.ensures)
+    lines_parsed c.args.lines.now c.in-Ok.parsed c.plain_model.result c.in-Ok-plain_model.system c.in-Ok.ensures c.in-Ok-plain_model.is
+    (subst (λ (trees : List Stmt). PlainAnswer trees c.plain_model.result) c.as_slice.ensures c.plain_model.ensures)
 
-pub returns-in-Err-Fault-plain_model : goal.returns-in-Err-Fault-plain_model
-returns-in-Err-Fault-plain_model c =
-    let cut : statements_of c.in-Ok.tokens.items ≡ Ok c.in-Ok-statements.spans.items = ap statements_of (sym c.as_slice.ensures.value) ∙ c.in-Ok-statements.ensures in
-    let parsed : AreParsed c.in-Ok.tokens.items c.in-Ok-statements.spans.items c.in-Ok-parsed_statements.parsed =
-    answer_over c.as_slice-2.result.now c.in-Ok.tokens.items c.as_slice-3.result.now c.in-Ok-statements.spans.items (Ok c.in-Ok-parsed_statements.parsed) c.as_slice-2.ensures.value c.as_slice-3.ensures.value c.in-Ok-parsed_statements.ensures in
-    lines_broken c.args.lines.now c.in-Ok.tokens.items c.in-Ok-statements.spans.items c.in-Ok-parsed_statements.parsed c.plain_model.result c.in-Err-Fault-plain_model.field-0 c.in-Err-Fault-plain_model.fault c.in-Ok.ensures.tokens cut parsed
-    c.in-Err-Fault-plain_model.is c.in-Err-Fault-plain_model.field-0-is
-    (subst (λ (trees : List Stmt). PlainAnswer trees c.plain_model.result) c.as_slice-4.ensures c.plain_model.ensures)
+pub returns-in-Err-Fault : goal.returns-in-Err-Fault
+returns-in-Err-Fault c =
+    lines_broken c.args.lines.now c.in-Ok.parsed c.plain_model.result c.in-Err-Fault.field-0 c.in-Err-Fault.fault c.in-Ok.ensures c.in-Err-Fault.is c.in-Err-Fault.field-0-is
+    (subst (λ (trees : List Stmt). PlainAnswer trees c.plain_model.result) c.as_slice.ensures c.plain_model.ensures)
