@@ -1,6 +1,6 @@
 -- What adding a statement answers: what was built stands for one statement more, or the statement has a fault.
-use Rattle.std.proofs.Common.{◌≡◌, ◌≢◌, ℕ, suc, ◌+◌, ◌<◌, ◌≤◌, Bool, true, false, List, [], ◌∷◌, ◌++◌, length, map, Option, Some, None, refl, sym, ◌∙◌, ap, subst, arith, nat_eq, length-append}
-use Rattle.std.specs.Prelude.{◌||◌, if◌then◌else◌, IsNone, is_some, Result, Ok, Err}
+use Rattle.std.proofs.Common.{◌≡◌, ℕ, ◌+◌, ◌<◌, ◌≤◌, Bool, true, false, List, [], ◌∷◌, ◌++◌, length, Option, Some, None, refl, sym, ◌∙◌, ap, subst, arith, nat_eq, length-append}
+use Rattle.std.specs.Prelude.{◌||◌, if◌then◌else◌, IsNone, is_some, Ok, Err}
 use Rattle.std.specs.List.{list_any}
 use Rattle.std.specs.Cmp.Lexicographic.{pointwise}
 use Rattle.indexmap.specs.IndexSet.{insert_key}
@@ -18,14 +18,14 @@ use Rattle.zim_rows.specs.System.{LinearSystem, column_of, row_of, with_column, 
 use Rattle.zim_rows.specs.System as system
 use Rattle.zim_plain.specs.declared.stop.PlainStop.{PlainStop}
 use Rattle.zim_plain.specs.declared.stop.PlainStop.TheVariants as stopped
-use Rattle.zim_plain.specs.Statements.{Text, Head, Sum, Statement, Variable, Objective, Constraint, Model, head_of, name_of, variables}
+use Rattle.zim_plain.specs.Statements.{Text, Head, Sum, Statement, Variable, Objective, Constraint, Model, head_of, variables}
 use Rattle.zim_plain.specs.Suits.{SuitsSum, MayFollow}
-use Rattle.zim_plain.specs.Faults.{fault_at, rows_of, limit_fault, number_fault, HasFault, unsuited, numbers}
+use Rattle.zim_plain.specs.Faults.{fault_at, rows_of, limit_fault, number_fault, unsuited, numbers}
 use Rattle.zim_plain.specs.Systems.{nonnegative}
 use Rattle.zim_plain.specs.Sides.{MadeAnswer, list_fault, IsListForm, row_fault, IsRowForm}
 use Rattle.zim_plain.specs.Build.{Built, Stands, IsSmall, stop_of_row, AddAnswer}
 use Rattle.zim_plain.proofs.Faulting.{first_of_first, first_of_second}
-use Rattle.zim_plain.proofs.BuildLaws.{is_taken, IsNew, is_new, no_objective, is_full, rows_counted, row_then, with_variable, with_objective, made_row, with_constraint, stands_variable, stands_objective, stands_constraint}
+use Rattle.zim_plain.proofs.BuildLaws.{is_taken, is_new, no_objective, is_full, rows_counted, row_then, with_variable, with_objective, made_row, with_constraint, stands_variable, stands_objective, stands_constraint}
 
 -- ---- what was built
 

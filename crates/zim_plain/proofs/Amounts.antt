@@ -1,24 +1,23 @@
 -- Lists over names are terms over columns: their numbers, and where adding them up is past.
-use Rattle.std.proofs.Common.{ℕ, zero, suc, ◌≡◌, ◌≢◌, ◌<◌, ◌≤◌, Bool, true, false, nat_eq, List, [], ◌∷◌, ◌++◌, map, length, IsTrue, Option, Some, None, arith, refl, sym, ap, ap₂, subst, ◌∙◌, Contains}
-use Rattle.std.specs.Prelude.{if◌then◌else◌, cond, option_map, unwrap_or, IfSome}
+use Rattle.std.proofs.Common.{ℕ, zero, suc, ◌≡◌, ◌≢◌, Bool, true, false, nat_eq, List, [], ◌∷◌, ◌++◌, map, Option, Some, None, arith, refl, sym, ap, ap₂, ◌∙◌, Contains}
+use Rattle.std.specs.Prelude.{if◌then◌else◌, option_map, unwrap_or}
 use Rattle.std.specs.List.{AllByRecursion}
 use Rattle.std.specs.Cmp.Lexicographic.{pointwise, bytes_decides, same_text}
-use Rattle.std.proofs.lemmas.Bool.{eqb-true, eq-eqb, ne_eqb, false_from_ne_true}
+use Rattle.std.proofs.lemmas.Bool.{eq-eqb, ne_eqb}
 use Rattle.std.proofs.lemmas.List.{map-append}
-use Rattle.zim_fault.specs.declared.faults.Fault.{Fault}
 use Rattle.zim_rational.specs.Rational as rational
-use Rattle.zim_rational.specs.Rational.{Rational, one, plus, negate, times, total}
+use Rattle.zim_rational.specs.Rational.{Rational, one, plus, times, total}
 use Rattle.zim_rational.proofs.Ring.{times_one, negate_times}
 use Rattle.zim_fraction.specs.Limit.{is_sum_within}
-use Rattle.zim_linear.specs.Forms.{Term, LinearForm, Assignment, sum_at}
+use Rattle.zim_linear.specs.Forms.{Term, Assignment, sum_at}
 use Rattle.zim_rows.specs.Scaled.{first_of}
-use Rattle.zim_plain.specs.Statements.{Text, Item, Constant, Multiple, Further, SignAt, Sum, items_of}
+use Rattle.zim_plain.specs.Statements.{Text, Item, Constant, Multiple, Further, Sum, items_of}
 use Rattle.zim_plain.specs.Meaning.{signed, coefficient_number, factor_number, item_number, sum_number}
 use Rattle.zim_plain.specs.Faults.{are_alike, amount, amount_among, sums_fault, past_unless}
 use Rattle.zim_plain.specs.Systems.{place_of, column_of_name, by_column}
-use Rattle.zim_plain.specs.Parts.{part_term, item_column, item_term, part_of, with_one, sum_of_column, parts_fault}
+use Rattle.zim_plain.specs.Parts.{item_column, item_term, part_of, with_one, sum_of_column, parts_fault}
 use Rattle.zim_plain.specs.Sides.{IsDeclared}
-use Rattle.zim_plain.proofs.Places.{no_place, at_place, one_place}
+use Rattle.zim_plain.proofs.Places.{no_place, one_place}
 
 -- ---- names and columns
 

@@ -1,39 +1,34 @@
 -- What was built keeps standing for the statements when one more is added.
-use Rattle.std.proofs.Common.{◌≡◌, ◌≢◌, ℕ, suc, ◌+◌, ◌<◌, ◌≤◌, Bool, true, false, cond, List, [], ◌∷◌, ◌++◌, length, map, IsTrue, Option, Some, None, refl, sym, ◌∙◌, ap, ap₂, subst, arith, nat_eq, nat_le, append_assoc, append-nil, length-append}
-use Rattle.std.specs.Prelude.{◌||◌, if◌then◌else◌, IsNone, IsSome, is_some, Result, Ok, Err, ⊤}
+use Rattle.std.proofs.Common.{◌≡◌, ◌≢◌, ℕ, suc, ◌+◌, ◌<◌, ◌≤◌, Bool, true, false, cond, List, [], ◌∷◌, ◌++◌, length, map, Option, Some, None, refl, sym, ◌∙◌, ap, subst, arith, nat_eq, append_assoc, append-nil}
+use Rattle.std.specs.Prelude.{◌||◌, IsNone, IsSome}
 use Rattle.std.specs.List.{AllByRecursion, list_any}
 use Rattle.std.specs.Cmp.Lexicographic.{pointwise, bytes_decides, other_text}
 use Rattle.std.proofs.lemmas.List.{map-append, length-map}
 use Rattle.std.proofs.lemmas.Bool.{false_from_ne_true, false≢true, le-leb, lt-leb}
 use mathlib.Core.Bool.{true≢false}
-use Rattle.indexmap.specs.IndexSet.{insert_key}
 use Rattle.zim_fault.specs.declared.faults.Place.{Place}
 use Rattle.zim_fault.specs.declared.faults.Fault.{Fault}
 use Rattle.zim_fault.specs.declared.kinds.Kind.{Kind}
-use Rattle.zim_fault.specs.declared.kinds.Kind.TheVariants.{Syntax, TooManyRows, TooManyColumns}
-use Rattle.zim_rational.specs.Rational.{Rational, negate}
-use Rattle.zim_linear.specs.Forms.{Term, LinearForm}
+use Rattle.zim_fault.specs.declared.kinds.Kind.TheVariants.{TooManyRows, TooManyColumns}
+use Rattle.zim_rational.specs.Rational.{negate}
+use Rattle.zim_linear.specs.Forms.{LinearForm}
 use Rattle.zim_rows.specs.declared.rows.Column.{Column}
 use Rattle.zim_rows.specs.declared.rows.GivenRow.{GivenRow}
-use Rattle.zim_rows.specs.declared.rows.RowFrom.{RowFrom}
 use Rattle.zim_rows.specs.declared.rows.RowKind.TheVariants.{One}
 use Rattle.zim_rows.specs.declared.rows.Sense.{Sense}
 use Rattle.zim_rows.specs.declared.rows.Objective as rows
-use Rattle.zim_rows.specs.declared.faults.RowFault.{RowFault}
 use Rattle.zim_rows.specs.declared.faults.RowFault.TheVariants as fault
 use Rattle.zim_rows.specs.System as system
-use Rattle.zim_rows.specs.System.{LinearSystem, empty_system, row_of, with_column, with_row, ColumnAnswer, RowAdded}
+use Rattle.zim_rows.specs.System.{empty_system, row_of, with_column, with_row}
 use Rattle.zim_rows.specs.Scaled.{first_of}
-use Rattle.zim_plain.specs.declared.stop.PlainStop.{PlainStop}
 use Rattle.zim_plain.specs.declared.stop.PlainStop.TheVariants as stopped
-use Rattle.zim_plain.specs.Statements.{Text, Head, Sum, Statement, Variable, Objective, Constraint, Model, head_of, items_of, name_of, variables}
-use Rattle.zim_plain.specs.Meaning.{sum_number}
-use Rattle.zim_plain.specs.Suits.{SuitsSum, is_objective, HasSuitedParts, MayFollow}
-use Rattle.zim_plain.specs.Faults.{fault_at, numbers_fault, adding_fault, difference_fault, rows_of, limit_fault, number_fault, HasFault, unsuited, numbers, IsFaultless, AreFaultless}
-use Rattle.zim_plain.specs.Systems.{by_column, IsForm, IsRowOf, AreRowsOf, objective_position, IsObjectiveOf, HasObjectiveOf, nonnegative}
-use Rattle.zim_plain.specs.Sides.{MadeAnswer, list_fault, IsListForm, row_fault, IsRowForm}
-use Rattle.zim_plain.specs.Build.{Built, other_names, Stands, IsSmall, stop_of_row, AddAnswer}
-use Rattle.zim_plain.proofs.Faulting.{first_of_assoc, first_of_first, first_of_second}
+use Rattle.zim_plain.specs.Statements.{Text, Head, Sum, Statement, Variable, Objective, Constraint, Model, name_of, variables}
+use Rattle.zim_plain.specs.Suits.{SuitsSum, is_objective, MayFollow}
+use Rattle.zim_plain.specs.Faults.{fault_at, numbers_fault, adding_fault, difference_fault, rows_of, limit_fault, number_fault, numbers, IsFaultless, AreFaultless}
+use Rattle.zim_plain.specs.Systems.{IsRowOf, AreRowsOf, objective_position, IsObjectiveOf, HasObjectiveOf, nonnegative}
+use Rattle.zim_plain.specs.Sides.{list_fault, IsListForm, row_fault, IsRowForm}
+use Rattle.zim_plain.specs.Build.{Built, other_names, Stands, IsSmall}
+use Rattle.zim_plain.proofs.Faulting.{first_of_assoc, first_of_second}
 use Rattle.zim_plain.proofs.SystemLaws.{variables-append}
 use Rattle.zim_plain.proofs.MoreNames.{list_more, row_more}
 

@@ -1,19 +1,18 @@
 -- The coefficients of forms, and what a form's number at every assignment says of them.
-use Rattle.std.proofs.Common.{ℕ, zero, suc, ◌≡◌, ◌≢◌, ◌<◌, ◌≤◌, ◌↔◌, Bool, true, false, nat_eq, List, [], ◌∷◌, ◌++◌, map, IsTrue, inl, inr, arith, refl, sym, ap, ap₂, subst, ◌∙◌}
+use Rattle.std.proofs.Common.{ℕ, zero, suc, ◌≡◌, ◌≢◌, ◌<◌, ◌≤◌, Bool, List, [], ◌∷◌, IsTrue, inl, inr, arith, refl, sym, ap, ap₂, subst, ◌∙◌}
 use Rattle.std.specs.Prelude.{if◌then◌else◌, cond}
-use Rattle.std.proofs.lemmas.Bool.{eqb-true, eq-eqb, ne_eqb, cases_Bool, cases_eq, cases_lt}
+use Rattle.std.proofs.lemmas.Bool.{eq-eqb, ne_eqb, cases_eq, cases_lt}
 use Rattle.zim_rational.specs.Rational as rational
-use Rattle.zim_rational.specs.Rational.{Rational, one, plus, minus, negate, times}
+use Rattle.zim_rational.specs.Rational.{Rational, one, plus, times}
 use Rattle.zim_rational.proofs.Ring.{zero_plus, plus_zero, plus_comm, plus_assoc, plus_cancel, times_plus, times_zero, times_one}
 use Rattle.zim_rational.proofs.Sums.{total_map_plus, total_map_same}
 use Rattle.zim_fraction.specs.Limit.{is_number, is_sum_within}
 use Rattle.zim_linear.specs.Forms.{Term, LinearForm, Assignment, AreTermsFrom, AreTerms, AreColumns, sum_at, number_at}
-use Rattle.zim_linear.specs.Sums.{HasSumWithin, HaveSumsWithin, IsSumWithin, IsSumOf, negated_terms, negated_form, IsDifferenceWithin}
+use Rattle.zim_linear.specs.Sums.{HasSumWithin, HaveSumsWithin, IsSumWithin, IsSumOf}
 use Rattle.zim_linear.proofs.FormLemmas.{sum_at_none, sum_at_more}
 use Rattle.zim_linear.proofs.ProbeLemmas.{only, nowhere, sum_nowhere, sum_below, sum_first}
-use Rattle.zim_linear.proofs.MergeLemmas.{lower_from}
 use Rattle.zim_plain.specs.Parts.{with_one, sum_of_column, coefficient_in, coefficient_at, AreNumbers}
-use Rattle.zim_plain.proofs.Limits.{sum_with_zero, zero_with_sum, sum_is_number, zero_is_number}
+use Rattle.zim_plain.proofs.Limits.{sum_with_zero, zero_with_sum, sum_is_number}
 
 -- ---- assignments
 

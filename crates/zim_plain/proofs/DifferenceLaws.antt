@@ -1,25 +1,22 @@
 -- The difference of the forms of two lists is past exactly where that of the lists is.
-use Rattle.std.proofs.Common.{ℕ, zero, suc, ◌≡◌, ◌≢◌, ◌<◌, ◌≤◌, ◌&&◌, Bool, true, false, nat_eq, List, [], ◌∷◌, ◌++◌, map, length, IsTrue, Option, Some, None, arith, refl, sym, ap, ap₂, subst, subst₂, ◌∙◌, inl, inr, ◌⊎◌}
-use Rattle.std.specs.Prelude.{if◌then◌else◌, cond, unwrap_or}
-use Rattle.std.specs.List.{AllByRecursion}
-use Rattle.std.proofs.lemmas.Bool.{eq-eqb, ne_eqb, cases_eq, and_from, and_parts}
-use Rattle.zim_fault.specs.declared.faults.Place.{Place}
+use Rattle.std.proofs.Common.{ℕ, zero, suc, ◌≡◌, Bool, true, false, nat_eq, List, [], ◌∷◌, map, length, IsTrue, refl, sym, ap, ap₂, subst, subst₂, ◌∙◌, inl, inr, ◌⊎◌}
+use Rattle.std.specs.Prelude.{if◌then◌else◌, unwrap_or}
+use Rattle.std.proofs.lemmas.Bool.{ne_eqb, cases_eq, and_from, and_parts}
 use Rattle.zim_rational.specs.Rational as rational
 use Rattle.zim_rational.specs.Rational.{Rational, plus, minus, negate}
 use Rattle.zim_rational.proofs.Ring.{negate_zero}
 use Rattle.zim_fraction.specs.Limit.{is_number, is_sum_within}
-use Rattle.zim_linear.specs.Forms.{Term, LinearForm, Assignment, AreTermsFrom, AreTerms, AreColumns, number_at, sum_at}
+use Rattle.zim_linear.specs.Forms.{Term, LinearForm}
 use Rattle.zim_linear.specs.Sums.{negated_terms, negated_form, IsDifferenceWithin, IsDifferenceOf}
 use Rattle.zim_linear.proofs.NegationLemmas.{negated_from}
 use Rattle.zim_plain.specs.Statements.{Text, Item, Sum, items_of}
 use Rattle.zim_plain.specs.Meaning.{sum_number}
 use Rattle.zim_plain.specs.Suits.{SuitsSum}
-use Rattle.zim_plain.specs.Faults.{amount_in, are_differences_within, difference_fault}
-use Rattle.zim_plain.specs.Systems.{by_column, IsForm}
+use Rattle.zim_plain.specs.Faults.{amount_in, are_differences_within}
+use Rattle.zim_plain.specs.Systems.{IsForm}
 use Rattle.zim_plain.specs.Parts.{item_column, item_term, sum_of_column, coefficient_in, coefficient_at, AreNumbers}
 use Rattle.zim_plain.specs.Sides.{IsDeclared, IsRowForm}
 use Rattle.zim_plain.proofs.Limits.{zero_with_sum, negate_is_number}
-use Rattle.zim_plain.proofs.Faulting.{none_past, past_none}
 use Rattle.zim_plain.proofs.Coefficients.{coefficient_is, from_one, sum_within, within_sum}
 use Rattle.zim_plain.proofs.Amounts.{AreDeclared, amount_column, sum_column}
 use Rattle.zim_plain.proofs.SideLaws.{declared_sum}

@@ -1,5 +1,5 @@
 -- Statements have one first fault at most, and none where they are those of an accepted model; a model has one program.
-use Rattle.std.proofs.Common.{◌≡◌, List, [], ◌∷◌, ◌++◌, Some, None, Option, refl, sym, ◌∙◌, ap, ap₂, subst, append_assoc, append-nil}
+use Rattle.std.proofs.Common.{◌≡◌, List, [], ◌∷◌, ◌++◌, Some, None, refl, sym, ◌∙◌, ap, ap₂, subst, append_assoc, append-nil}
 use Rattle.zim_fault.specs.declared.faults.Fault.{Fault}
 use Rattle.zim_fault.specs.declared.kinds.Kind.TheVariants.{Syntax}
 use Rattle.zim_tree.specs.declared.stmt.Stmt.{Stmt}

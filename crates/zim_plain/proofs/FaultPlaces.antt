@@ -13,7 +13,6 @@ use Rattle.zim_decimal.specs.Literal.{literal_answer}
 use Rattle.zim_rational.specs.Rational.{Rational, zero, over}
 use Rattle.zim_rows.specs.declared.rows.GivenRow.{GivenRow}
 use Rattle.zim_rows.specs.declared.rows.Objective as rows
-use Rattle.zim_rows.specs.declared.rows.Sense.{Sense}
 use Rattle.zim_rows.specs.Factors.{row_within, form_within}
 use Rattle.zim_rows.specs.System.{LinearSystem}
 use Rattle.zim_rows.specs.Scaled.{past_at, rows_fault, objective_fault, first_of, first_fault}

@@ -1,5 +1,5 @@
 -- The answers of the steps that make the form of a list and of a row, one after another.
-use Rattle.std.proofs.Common.{◌≡◌, IsTrue, Bool, true, false, List, Option, Some, None, refl, sym, ap, subst, ◌∙◌}
+use Rattle.std.proofs.Common.{◌≡◌, List, Option, Some, None, sym, subst, ◌∙◌}
 use Rattle.std.specs.Prelude.{Result, Ok, Err}
 use Rattle.zim_fault.specs.declared.faults.Place.{Place}
 use Rattle.zim_fault.specs.declared.faults.Fault.{Fault}
@@ -16,9 +16,9 @@ use Rattle.zim_plain.specs.declared.stop.PlainStop.{PlainStop}
 use Rattle.zim_plain.specs.declared.stop.PlainStop.TheVariants as stopped
 use Rattle.zim_plain.specs.Statements.{Text, Sum, items_of}
 use Rattle.zim_plain.specs.Suits.{SuitsSum}
-use Rattle.zim_plain.specs.Faults.{fault_at, past_unless, numbers_fault, adding_fault, are_differences_within, difference_fault}
+use Rattle.zim_plain.specs.Faults.{numbers_fault, adding_fault, are_differences_within, difference_fault}
 use Rattle.zim_plain.specs.Sides.{MadeAnswer, IsSideOf, IsSide, side_fault, IsSideForm, list_fault, IsListForm, row_fault, IsRowForm, row_answer}
-use Rattle.zim_plain.proofs.Faulting.{first_of_first, first_of_second, none_past, past_some, past_none}
+use Rattle.zim_plain.proofs.Faulting.{first_of_first, first_of_second, none_past, past_some}
 use Rattle.zim_plain.proofs.SideLaws.{side_form, side_faults}
 use Rattle.zim_plain.proofs.DifferenceLaws.{AreForms, difference_within, within_difference, difference_form}
 

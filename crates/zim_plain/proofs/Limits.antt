@@ -1,16 +1,15 @@
 -- Numbers within the limit, and the sums of them that are.
-use Rattle.std.proofs.Common.{ℕ, ℤ, pos, ◌≡◌, ◌≢◌, ◌≤◌, ◌<◌, ◌/◌, ◌*◌, ◌*ℤ◌, ◌+ℤ◌, Bool, IsTrue, unsigned_abs, nat_le, arith, refl, sym, ap, ap₂, subst, ◌∙◌, le-leb, leb-true, div-one, mul-one}
+use Rattle.std.proofs.Common.{ℕ, ℤ, pos, ◌≡◌, ◌≤◌, ◌/◌, ◌*◌, ◌+ℤ◌, IsTrue, unsigned_abs, nat_le, arith, refl, sym, ap, ap₂, subst, ◌∙◌, le-leb, leb-true, mul-one}
 use Rattle.std.proofs.Math.Nat.{div_self, div-le_self}
 use Rattle.std.proofs.lemmas.Bool.{and_from, and_parts}
-use Rattle.zim_rational.specs.Gcd.{gcd, lcm, gcd-one}
+use Rattle.zim_rational.specs.Gcd.{lcm, gcd-one}
 use Rattle.zim_rational.proofs.Multiples.{lcm_is, lcm_comm}
 use Rattle.zim_rational.proofs.Fraction.{denom-pos}
 use Rattle.std.proofs.lemmas.Int.{ints}
 use Rattle.zim_rational.specs.Rational.{Rational, ratio, zero, one, plus, negate, whole}
-use Rattle.zim_rational.proofs.Parts.{HasParts, ratio-parts, signed-abs, negate-parts, abs_negated}
-use Rattle.zim_rational.proofs.Ring.{plus_zero, zero_plus, plus_comm}
+use Rattle.zim_rational.proofs.Parts.{ratio-parts, signed-abs, negate-parts, abs_negated}
 use Rattle.zim_fraction.specs.Limit.{limit, is_number, is_sum_within, common_denom, common_numer, numer_over}
-use Rattle.zim_fraction.proofs.SumLemmas.{IsSumWithin, sum_parts, sum_from_parts, common_ratio, common_denom-pos}
+use Rattle.zim_fraction.proofs.SumLemmas.{sum_parts, sum_from_parts, common_ratio, common_denom-pos}
 
 number_from : (q : Rational) → unsigned_abs q.numer ≤ limit → q.denom ≤ limit → IsTrue (is_number q)
 number_from q n d = and_from (nat_le (unsigned_abs q.numer) limit) (nat_le q.denom limit) (le-leb (unsigned_abs q.numer) limit n) (le-leb q.denom limit d)

@@ -1,12 +1,10 @@
 -- The numbers of literals and of coefficients, and their faults.
-use Rattle.std.proofs.Common.{ℕ, suc, ℤ, pos, negsuc, ◌≡◌, ◌≢◌, ◌<◌, ◌≤◌, ◌^◌, ◌==◌, ◌&&◌, Bool, true, false, cond, IsTrue, nat_le, List, Option, Some, None, arith, refl, sym, ap, ap₂, subst, ◌∙◌, eq-eqb, ne_eqb, inl, inr, ◌↔◌}
+use Rattle.std.proofs.Common.{ℕ, suc, ℤ, pos, negsuc, ◌≡◌, ◌≢◌, ◌<◌, ◌^◌, ◌==◌, ◌&&◌, Bool, true, false, cond, IsTrue, nat_le, Option, Some, None, arith, refl, sym, ap, subst, ◌∙◌, eq-eqb, ne_eqb, inl, inr, ◌↔◌}
 use Rattle.std.specs.Prelude.{if◌then◌else◌, Result, Ok, Err}
 use Rattle.std.proofs.lemmas.Bool.{cases_eq, cond-true, cond-false}
-use Rattle.zim_fault.specs.declared.faults.Place.{Place}
-use Rattle.zim_fault.specs.declared.faults.Fault.{Fault}
 use Rattle.zim_fault.specs.declared.kinds.Kind.TheVariants.{Past}
 use Rattle.zim_rational.specs.Rational as rational
-use Rattle.zim_rational.specs.Rational.{Rational, whole, one, times, over, negate, reciprocal, same}
+use Rattle.zim_rational.specs.Rational.{Rational, whole, one, times, over, reciprocal, same}
 use Rattle.zim_rational.proofs.Ring.{zero_times}
 use Rattle.zim_rational.proofs.Whole.{times_cancel, over_times, same_Decides}
 use Rattle.zim_rational.proofs.Parts.{whole_different}
@@ -18,10 +16,9 @@ use Rattle.zim_fraction.specs.Answers.{number_answer, quotient_answer}
 use Rattle.zim_fraction.proofs.AnswerLemmas.{quotient_answer_some}
 use Rattle.zim_decimal.specs.Literal.{digits_of, significand, power_of_ten, scaled, value_answer, is_near, scaled_answer, literal_answer}
 use Rattle.zim_decimal.proofs.DigitLemmas.{ten_at_least}
-use Rattle.zim_rows.specs.Scaled.{first_of}
-use Rattle.zim_plain.specs.Statements.{Text, Literal, Divisor, Coefficient, Factor, Item, Constant, Multiple}
-use Rattle.zim_plain.specs.Meaning.{literal_number, coefficient_number, factor_number, signed}
-use Rattle.zim_plain.specs.Faults.{fault_at, past_unless, literal_fault, divisor_fault, coefficient_fault, item_fault, amount}
+use Rattle.zim_plain.specs.Statements.{Literal, Divisor, Coefficient, Item, Constant, Multiple}
+use Rattle.zim_plain.specs.Meaning.{literal_number, coefficient_number, signed}
+use Rattle.zim_plain.specs.Faults.{fault_at, literal_fault, divisor_fault, coefficient_fault, item_fault, amount}
 use Rattle.zim_plain.proofs.Limits.{zero_is_number, one_is_number, negate_is_number}
 use Rattle.zim_plain.proofs.Faulting.{first_of_none, first_of_second, past_none, past_some}
 

@@ -1,11 +1,11 @@
 -- The forms of lists stay when further names follow.
 use Rattle.std.proofs.Common.{ℕ, ◌≡◌, ◌≤◌, Bool, List, [], ◌∷◌, ◌++◌, map, length, refl, sym, ap, ap₂, ◌∙◌, arith, length-append, Contains}
-use Rattle.zim_rational.specs.Rational.{Rational, plus, minus, times, total}
+use Rattle.zim_rational.specs.Rational.{plus, minus, times, total}
 use Rattle.zim_linear.specs.Forms.{Term, LinearForm, Assignment, AreColumns}
 use Rattle.zim_plain.specs.Statements.{Text, Item, Constant, Multiple, Sum, items_of}
 use Rattle.zim_plain.specs.Meaning.{signed, factor_number, item_number, sum_number}
 use Rattle.zim_plain.specs.Suits.{SuitsSum}
-use Rattle.zim_plain.specs.Systems.{by_column, column_of_name, IsForm}
+use Rattle.zim_plain.specs.Systems.{by_column, column_of_name}
 use Rattle.zim_plain.specs.Sides.{IsDeclared, IsListForm, IsRowForm}
 use Rattle.zim_plain.proofs.Places.{place-append}
 use Rattle.zim_plain.proofs.Amounts.{AreDeclared, declared_place, column_behind}

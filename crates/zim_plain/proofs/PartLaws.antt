@@ -1,6 +1,6 @@
 -- The form of a part, and a form to which parts are added one after another.
-use Rattle.std.proofs.Common.{ℕ, zero, suc, ◌≡◌, ◌≢◌, ◌<◌, ◌≤◌, Bool, true, false, nat_eq, List, [], ◌∷◌, ◌++◌, map, length, IsTrue, Option, Some, None, arith, refl, sym, ap, ap₂, subst, subst₂, ◌∙◌, inl, inr, append_assoc, append-nil}
-use Rattle.std.specs.Prelude.{if◌then◌else◌, cond, unwrap_or, IfSome, Result, Ok, Err}
+use Rattle.std.proofs.Common.{ℕ, zero, suc, ◌≡◌, ◌<◌, ◌≤◌, Bool, true, false, nat_eq, List, [], ◌∷◌, ◌++◌, map, length, IsTrue, Option, Some, None, arith, refl, sym, ap, subst, ◌∙◌, inl, inr, append_assoc, append-nil}
+use Rattle.std.specs.Prelude.{if◌then◌else◌, unwrap_or, IfSome, Result, Ok, Err}
 use Rattle.std.specs.List.{AllByRecursion}
 use Rattle.std.proofs.lemmas.List.{map-append}
 use Rattle.std.proofs.lemmas.Bool.{eq-eqb, ne_eqb, cases_eq}
@@ -12,23 +12,22 @@ use Rattle.zim_rational.proofs.Ring.{plus_zero, zero_plus, times_one, one_times,
 use Rattle.zim_fraction.specs.Limit.{is_number, is_sum_within}
 use Rattle.zim_linear.specs.Forms.{Term, LinearForm, Assignment, AreTermsFrom, AreTerms, AreColumns, form_of, number_at, sum_at}
 use Rattle.zim_linear.specs.Answers.{FormAnswer}
-use Rattle.zim_linear.specs.Sums.{IsSumWithin, IsSumOf, AddedAnswer}
-use Rattle.zim_linear.specs.Multiples.{HaveProductsWithin, IsMultipleWithin, IsMultipleOf}
+use Rattle.zim_linear.specs.Sums.{IsSumWithin, AddedAnswer}
+use Rattle.zim_linear.specs.Multiples.{IsMultipleWithin, IsMultipleOf}
 use Rattle.zim_linear.specs.declared.faults.LinFault.{LinFault}
 use Rattle.zim_linear.specs.declared.faults.LinFault.TheVariants.{Past, Memory}
 use Rattle.zim_linear.proofs.FormLemmas.{sum_at_none, sum_at_more, sum_at_append}
-use Rattle.zim_rows.specs.Scaled.{first_of}
 use Rattle.zim_plain.specs.declared.parts.Part.{Part}
 use Rattle.std.specs.Global.{Vec}
 use Rattle.zim_plain.specs.declared.parts.Side.{Side}
 use Rattle.zim_plain.specs.declared.parts.Side.TheVariants.{Known, Parts}
 use Rattle.zim_plain.specs.declared.stop.PlainStop.{PlainStop}
 use Rattle.zim_plain.specs.Sides.{MadeAnswer, IsSide, side_fault, IsSideForm}
-use Rattle.zim_plain.specs.Faults.{fault_at, past_unless}
+use Rattle.zim_plain.specs.Faults.{fault_at}
 use Rattle.zim_plain.specs.Parts.{part_term, with_one, sum_of_column, parts_fault, parts_number, coefficient_in, coefficient_at, AreNumbers, IsPart, IsPartUpTo, IsFormOf, PartFormAnswer, IsAdded, AddPartAnswer}
-use Rattle.zim_plain.proofs.Limits.{zero_is_number, one_is_number, sum_with_zero}
+use Rattle.zim_plain.proofs.Limits.{zero_is_number, sum_with_zero}
 use Rattle.zim_plain.proofs.Faulting.{none_past, past_some, first_of_second, first_of_first}
-use Rattle.zim_plain.proofs.Coefficients.{coefficient_is, coefficient_plus, constant_probe, from_one, sum_within, within_sum, sum_are_numbers}
+use Rattle.zim_plain.proofs.Coefficients.{coefficient_is, from_one, sum_within, within_sum, sum_are_numbers}
 
 -- ---- the number of a part
 

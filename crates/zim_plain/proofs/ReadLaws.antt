@@ -1,6 +1,6 @@
 -- What is read of a list, item by item: its parts, or the number that it is where it names no variable.
-use Rattle.std.proofs.Common.{ℕ, zero, suc, ◌≡◌, ◌≢◌, ◌<◌, ◌≤◌, ◌+◌, ◌||◌, Bool, true, false, List, [], ◌∷◌, ◌++◌, map, length, take, drop, get_or, IsTrue, Option, Some, None, arith, refl, sym, ap, ap₂, subst, ◌∙◌, append_assoc, append-nil}
-use Rattle.std.specs.Prelude.{if◌then◌else◌, IfSome, Result, Ok, Err, unwrap_or}
+use Rattle.std.proofs.Common.{ℕ, zero, ◌≡◌, ◌<◌, ◌≤◌, ◌+◌, ◌||◌, Bool, true, false, List, [], ◌∷◌, ◌++◌, map, length, take, drop, get_or, IsTrue, Option, Some, None, arith, refl, sym, ap, ap₂, subst, ◌∙◌, append_assoc, append-nil}
+use Rattle.std.specs.Prelude.{if◌then◌else◌, IfSome, Ok, Err}
 use Rattle.std.specs.List.{AllByRecursion}
 use Rattle.std.proofs.lemmas.List.{map-append, take_more, take_all}
 use Rattle.zim_fault.specs.declared.faults.Place.{Place}
@@ -13,15 +13,13 @@ use Rattle.zim_fraction.specs.Limit.{is_number, is_sum_within}
 use Rattle.zim_fraction.specs.Answers.{sum_answer}
 use Rattle.zim_fraction.specs.declared.fault.Past as fraction
 use Rattle.zim_linear.proofs.AnswerLemmas.{sum_ok, sum_past, sum_value}
-use Rattle.zim_rows.specs.Scaled.{first_of}
 use Rattle.zim_plain.specs.declared.parts.Part.{Part}
 use Rattle.zim_plain.specs.declared.statement.Further as code
 use Rattle.zim_plain.specs.Reader.{item_of, further_of}
 use Rattle.zim_plain.specs.Statements.{Text, Item, Constant, Multiple, Further, Sum, first_negative, items_of}
 use Rattle.zim_plain.specs.Meaning.{sum_number}
 use Rattle.zim_plain.specs.Suits.{SuitsItem, SuitsSum}
-use Rattle.zim_plain.specs.Faults.{fault_at, past_unless, item_fault, items_fault, has_name, any_has_name, names_variable, are_alike, amount, amount_among, constants_fault, numbers_fault, first_item}
-use Rattle.zim_plain.specs.Systems.{column_of_name}
+use Rattle.zim_plain.specs.Faults.{fault_at, item_fault, items_fault, has_name, any_has_name, names_variable, are_alike, amount, amount_among, constants_fault, numbers_fault, first_item}
 use Rattle.zim_plain.specs.Parts.{item_column, part_at, part_of, IsPart}
 use Rattle.zim_plain.specs.Sides.{IsDeclared, SuitsNumbers, SuitOthers, ArePartsOf, PartAnswer, parts_numbers_fault}
 use Rattle.zim_plain.proofs.Limits.{sum_is_number}

@@ -1,5 +1,5 @@
 -- A statement with each place put to another one, and its tree: a map of places that keeps the tree keeps the statement.
-use Rattle.std.proofs.Common.{◌≡◌, ℕ, Bool, true, false, List, [], ◌∷◌, ◌++◌, map, Option, Some, None, option_map, refl, sym, ◌∙◌, ap, ap₂}
+use Rattle.std.proofs.Common.{◌≡◌, List, [], ◌∷◌, ◌++◌, map, Option, Some, None, option_map, refl, sym, ◌∙◌, ap, ap₂}
 use Rattle.std.specs.Prelude.{if◌then◌else◌}
 use Rattle.zim_fault.specs.declared.faults.Place.{Place}
 use Rattle.zim_fault.specs.declared.signs.Sign.TheVariants.{SPlus, SMinus, SStar, SSlash}
@@ -9,14 +9,12 @@ use Rattle.zim_fault.specs.declared.tokens.Relation.{Relation}
 use Rattle.zim_tree.specs.declared.expr.Expr.{Expr}
 use Rattle.zim_tree.specs.declared.expr.Expr.TheVariants as tree
 use Rattle.zim_tree.specs.declared.stmt.Stmt.{Stmt}
-use Rattle.zim_tree.specs.declared.stmt.Shape.{Shape}
 use Rattle.zim_tree.specs.declared.stmt.Shape.TheVariants as shape
 use Rattle.zim_tree.specs.Levels.{Operands, products, sums, joined}
 use Rattle.zim_tree.specs.Plain.{replaced}
 use Rattle.zim_tree.specs.PlainStatement.{replaced_statement}
 use Rattle.zim_tree.proofs.ReplacedLemmas.{replaced-Number, replaced-Name, replaced-Signed, replaced-Times, replaced-Plus, replaced-Compare}
-use Rattle.zim_rows.specs.declared.rows.Sense.{Sense}
-use Rattle.zim_plain.specs.Statements.{Text, Literal, Divisor, Coefficient, Factor, Item, Constant, Multiple, SignAt, Further, Sum, Head, Statement, Variable, Objective, Constraint, Model}
+use Rattle.zim_plain.specs.Statements.{Literal, Divisor, Coefficient, Factor, Item, Constant, Multiple, SignAt, Further, Sum, Head, Statement, Variable, Objective, Constraint, Model}
 use Rattle.zim_plain.specs.Trees.{tree_of_literal, with_sign, divisor_operand, tree_of_item, operand_of_further, tree_of_sum, relation_of_sense, headed, tree_of, trees_of}
 use Rattle.zim_plain.proofs.TreeLaws.{one_statement}
 

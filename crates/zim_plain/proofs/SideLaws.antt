@@ -1,30 +1,26 @@
 -- What is read of a list, and the form that its parts add up to, against the list.
-use Rattle.std.proofs.Common.{ℕ, zero, suc, ◌≡◌, ◌≢◌, ◌<◌, ◌≤◌, ◌||◌, Bool, true, false, nat_eq, List, [], ◌∷◌, ◌++◌, map, length, IsTrue, Option, Some, None, arith, refl, sym, ap, ap₂, subst, ◌∙◌, Contains, inl, inr, ◌⊎◌}
-use Rattle.std.specs.Prelude.{if◌then◌else◌, cond, unwrap_or, IfSome}
+use Rattle.std.proofs.Common.{ℕ, zero, ◌≡◌, ◌≤◌, ◌||◌, Bool, true, false, List, [], ◌∷◌, map, length, IsTrue, None, arith, refl, sym, ap, ap₂, subst, ◌∙◌}
+use Rattle.std.specs.Prelude.{if◌then◌else◌, IfSome}
 use Rattle.std.specs.List.{AllByRecursion}
-use Rattle.zim_fault.specs.declared.faults.Place.{Place}
-use Rattle.zim_fault.specs.declared.faults.Fault.{Fault}
 use Rattle.zim_rational.specs.Rational as rational
-use Rattle.zim_rational.specs.Rational.{Rational, plus, minus, negate, total}
+use Rattle.zim_rational.specs.Rational.{Rational, plus, total}
 use Rattle.zim_rational.proofs.Ring.{plus_assoc, plus_zero, zero_plus}
-use Rattle.zim_fraction.specs.Limit.{is_number, is_sum_within}
-use Rattle.zim_linear.specs.Forms.{Term, LinearForm, Assignment, AreTerms, AreColumns, number_at, sum_at}
-use Rattle.zim_rows.specs.Scaled.{first_of}
+use Rattle.zim_fraction.specs.Limit.{is_sum_within}
+use Rattle.zim_linear.specs.Forms.{Term, LinearForm, Assignment, sum_at}
 use Rattle.zim_plain.specs.declared.parts.Part.{Part}
 use Rattle.zim_plain.specs.declared.parts.Side.{Side}
 use Rattle.zim_plain.specs.declared.parts.Side.TheVariants.{Known, Parts}
 use Rattle.zim_plain.specs.Statements.{Text, Item, Constant, Multiple, Further, Sum, items_of}
-use Rattle.zim_plain.specs.Meaning.{item_number, sum_number, signed, coefficient_number}
+use Rattle.zim_plain.specs.Meaning.{item_number, sum_number}
 use Rattle.zim_plain.specs.Suits.{SuitsItem, SuitsSum}
-use Rattle.zim_plain.specs.Faults.{amount, amount_among, past_unless, item_fault, items_fault, has_name, any_has_name, names_variable, constants_fault, sums_fault, numbers_fault, adding_fault, first_item, amount_in}
-use Rattle.zim_plain.specs.Systems.{place_of, by_column, column_of_name, IsForm}
-use Rattle.zim_plain.specs.Parts.{part_term, item_column, item_term, part_at, part_of, with_one, sum_of_column, parts_fault, parts_number, coefficient_at, IsPart, IsPartUpTo, IsFormOf, AreNumbers}
-use Rattle.zim_plain.specs.Sides.{IsDeclared, ArePartsOf, IsSideOf, side_fault, side_number, side_parts, IsSideForm}
+use Rattle.zim_plain.specs.Faults.{amount, amount_among, has_name, any_has_name, names_variable, sums_fault, adding_fault, first_item, amount_in}
+use Rattle.zim_plain.specs.Systems.{by_column, IsForm}
+use Rattle.zim_plain.specs.Parts.{part_term, item_column, item_term, part_of, with_one, sum_of_column, parts_fault, parts_number, IsPart, IsPartUpTo}
+use Rattle.zim_plain.specs.Sides.{IsDeclared, ArePartsOf, IsSideOf, side_fault, IsSideForm}
 use Rattle.zim_plain.proofs.Places.{at_place}
 use Rattle.zim_plain.proofs.Limits.{zero_with_sum}
 use Rattle.zim_plain.proofs.Faulting.{none_past, first_of_second}
-use Rattle.zim_plain.proofs.Coefficients.{coefficient_is}
-use Rattle.zim_plain.proofs.Amounts.{AreDeclared, declared_place, column_behind, amount_column, fault_column, sum_column}
+use Rattle.zim_plain.proofs.Amounts.{AreDeclared, declared_place, column_behind, fault_column, sum_column}
 
 -- ---- declared names
 

@@ -1,15 +1,15 @@
 -- The system of a model: its points are the assignments that satisfy the model, its objective is the model's, and a model has one system.
-use Rattle.std.proofs.Common.{ℕ, zero, suc, ◌-◌, ◌≡◌, ◌<◌, ◌≤◌, ◌+◌, ◌↔◌, Bool, true, false, List, [], ◌∷◌, ◌++◌, map, length, get_or, IsTrue, Option, Some, None, arith, refl, sym, ap, ap₂, subst, subst₂, ◌∙◌, append_assoc, Contains, append-nil}
-use Rattle.std.specs.Prelude.{IfSome, ⊤, slice_index_or}
+use Rattle.std.proofs.Common.{ℕ, zero, suc, ◌-◌, ◌≡◌, ◌<◌, ◌≤◌, ◌+◌, ◌↔◌, Bool, true, false, List, [], ◌∷◌, ◌++◌, map, length, IsTrue, Option, Some, None, arith, refl, sym, ap, ap₂, subst, subst₂, ◌∙◌, append_assoc, Contains, append-nil}
+use Rattle.std.specs.Prelude.{slice_index_or}
 use Rattle.std.specs.List.{AllByRecursion}
 use Rattle.std.proofs.lemmas.List.{length-map}
 use Rattle.zim_fault.specs.declared.faults.Place.{Place}
 use Rattle.zim_rational.specs.Rational as rational
 use Rattle.zim_rational.specs.Rational.{Rational, plus, minus, negate, total, times, IsAtMost}
-use Rattle.zim_rational.proofs.Ring.{plus_minus, minus_plus, plus_cancel, plus_negate, plus_assoc, plus_zero, zero_plus, plus_comm, negate_negate, minus_is, plus_left_comm}
+use Rattle.zim_rational.proofs.Ring.{minus_plus, plus_cancel, plus_negate, plus_assoc, plus_zero, zero_plus, plus_comm}
 use Rattle.zim_rational.proofs.Order.{plus_at_most, at_most_refl}
-use Rattle.zim_linear.specs.Forms.{Term, LinearForm, Assignment, AreTerms, sum_at, number_at}
-use Rattle.zim_linear.specs.Ends.{IsBetween, unbounded}
+use Rattle.zim_linear.specs.Forms.{Term, LinearForm, Assignment, sum_at, number_at}
+use Rattle.zim_linear.specs.Ends.{unbounded}
 use Rattle.zim_linear.proofs.UniqueLemmas.{one_form}
 use Rattle.zim_decimal.specs.Short.{is_short}
 use Rattle.zim_rows.specs.declared.rows.Column.{Column}
@@ -21,14 +21,13 @@ use Rattle.zim_rows.specs.declared.rows.RowKind.TheVariants.{One}
 use Rattle.zim_rows.specs.declared.rows.Sense.{Sense}
 use Rattle.zim_rows.specs.declared.rows.Sense.TheVariants.{AtLeast, AtMost, Equal}
 use Rattle.zim_rows.specs.System.{LinearSystem, column_at, column_of}
-use Rattle.zim_rows.specs.Points.{assigned, KeepsColumn, KeepColumns, Compares, KeepsKind, KeepConstraints, given_constraint, IsSystemPoint, objective_number, system_objective_at}
+use Rattle.zim_rows.specs.Points.{assigned, KeepColumns, Compares, KeepsKind, KeepConstraints, given_constraint, IsSystemPoint, objective_number, system_objective_at}
 use Rattle.zim_rows.specs.Covered.{IsCovered, IsCoveredColumn}
 use Rattle.zim_plain.specs.Statements.{Text, Item, Constant, Multiple, Sum, Statement, Variable, Objective, Constraint, Model, items_of, variables}
 use Rattle.zim_plain.specs.Meaning as meaning
 use Rattle.zim_plain.specs.Meaning.{IsAssignment, item_number, sum_number, value_of, Holds, Sat, objective_among, Obj}
-use Rattle.zim_plain.specs.Suits.{SuitsItem, SuitsSum}
 use Rattle.zim_plain.specs.Faults.{AreFaultless, IsFaultless, IsPlain}
-use Rattle.zim_plain.specs.Systems.{place_of, column_of_name, by_column, IsForm, IsRowOf, AreRowsOf, IsObjectiveOf, HasObjectiveOf, nonnegative, IsSystemOf}
+use Rattle.zim_plain.specs.Systems.{by_column, IsRowOf, AreRowsOf, HasObjectiveOf, nonnegative, IsSystemOf}
 use Rattle.zim_plain.specs.Sides.{IsDeclared}
 use Rattle.zim_plain.proofs.Places.{value_at_place, place-append, place_contains}
 use Rattle.zim_plain.proofs.Amounts.{AreDeclared, declared_place, column_behind}

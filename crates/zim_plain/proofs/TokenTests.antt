@@ -1,11 +1,10 @@
 -- A text is written as number tokens are where it is a field without a sign.
-use Rattle.std.proofs.Common.{ℕ, suc, ◌≡◌, ◌==◌, ◌||◌, ◌+◌, Bool, true, false, cond, IsTrue, List, [], ◌∷◌, take, drop, Option, Some, None, inl, inr, arith, refl, sym, ap, subst, ◌∙◌, eq-eqb, ne_eqb}
+use Rattle.std.proofs.Common.{ℕ, suc, ◌≡◌, ◌==◌, ◌||◌, Bool, true, false, List, [], ◌∷◌, take, Option, Some, None, inl, inr, arith, refl, sym, ap, subst, ◌∙◌, ne_eqb}
 use Rattle.std.specs.Prelude.{Result, Ok, Err, if◌then◌else◌, ◌≢◌}
-use Rattle.std.specs.Char.{is_ascii_digit}
-use Rattle.std.specs.List.{position_or_len, list_all}
+use Rattle.std.specs.List.{position_or_len}
 use Rattle.std.specs.Str.Parse.{without_leading_sign, starts_with_minus}
-use Rattle.std.proofs.lemmas.Bool.{cases_eq, cases_Bool, cond-true, cond-false, false_from_ne_true}
-use Rattle.zim_rational.specs.Rational.{Rational, negate}
+use Rattle.std.proofs.lemmas.Bool.{cases_eq, false_from_ne_true}
+use Rattle.zim_rational.specs.Rational.{Rational}
 use Rattle.zim_fraction.specs.declared.fault.Past.{Past}
 use Rattle.zim_decimal.specs.Token.{is_number, is_mark, is_point, is_field}
 use Rattle.zim_decimal.specs.Literal.{literal_answer, signed_answer, field_answer}

@@ -1,10 +1,10 @@
 -- Lists as terms over numbered columns: the coefficients that they come to, and where adding them up is past.
-use Rattle.std.specs.Prelude.{ℕ, zero, suc, ◌≡◌, ◌<◌, ◌≤◌, nat_eq, if◌then◌else◌, Bool, true, false, IsTrue, List, [], ◌∷◌, ◌++◌, map, Option, Some, None, IfSome, unwrap_or, Result, Ok, Err}
+use Rattle.std.specs.Prelude.{ℕ, zero, suc, ◌≡◌, ◌<◌, ◌≤◌, nat_eq, if◌then◌else◌, Bool, IsTrue, List, [], ◌∷◌, ◌++◌, map, Option, Some, None, IfSome, unwrap_or, Result, Ok, Err}
 use Rattle.std.specs.List.{AllByRecursion}
 use Rattle.zim_fault.specs.declared.faults.Place.{Place}
 use Rattle.zim_fault.specs.declared.faults.Fault.{Fault}
 use Rattle.zim_rational.specs.Rational as rational
-use Rattle.zim_rational.specs.Rational.{Rational, plus, minus, one}
+use Rattle.zim_rational.specs.Rational.{Rational, plus, one}
 use Rattle.zim_fraction.specs.Limit.{is_number, is_sum_within}
 use Rattle.zim_linear.specs.Forms.{Term, LinearForm, Assignment, AreTerms, AreColumns, sum_at, number_at}
 use Rattle.zim_linear.specs.declared.faults.LinFault.{LinFault}

@@ -1,5 +1,5 @@
 -- What the building functions answer: the numbers of a list, its form, and the form of a row, or the first fault.
-use Rattle.std.specs.Prelude.{ℕ, ◌≡◌, ◌<◌, ◌==◌, ◌||◌, nat_eq, Contains, Bool, true, false, IsTrue, List, [], ◌∷◌, ◌++◌, map, length, Option, Some, None, Result, Ok, Err}
+use Rattle.std.specs.Prelude.{ℕ, ◌≡◌, ◌==◌, ◌||◌, Contains, Bool, true, false, IsTrue, List, [], ◌∷◌, map, Option, Some, None, Result, Ok, Err}
 use Rattle.std.specs.List.{AllByRecursion}
 use Rattle.std.specs.Global.{Vec}
 use Rattle.zim_fault.specs.declared.faults.Place.{Place}
@@ -16,7 +16,7 @@ use Rattle.zim_plain.specs.declared.parts.Side.{Side}
 use Rattle.zim_plain.specs.declared.parts.Side.TheVariants.{Known, Parts}
 use Rattle.zim_plain.specs.declared.stop.PlainStop.{PlainStop}
 use Rattle.zim_plain.specs.declared.stop.PlainStop.TheVariants as stopped
-use Rattle.zim_plain.specs.Statements.{Text, Item, Constant, Multiple, Further, Sum, first_negative, items_of}
+use Rattle.zim_plain.specs.Statements.{Text, Item, Constant, Multiple, Further, Sum, first_negative}
 use Rattle.zim_plain.specs.Meaning.{coefficient_number, factor_number, sum_number}
 use Rattle.zim_plain.specs.Suits.{SuitsCoefficient, SuitsFactor, SuitsItem}
 use Rattle.zim_plain.specs.Faults.{fault_at, item_fault, items_fault, names_variable, numbers_fault, adding_fault, difference_fault}

@@ -1,5 +1,5 @@
 -- A literal is 0 where its number is, and one that is past isn't.
-use Rattle.std.proofs.Common.{◌∙◌, ap, Ok, Err}
+use Rattle.std.proofs.Common.{◌∙◌, ap}
 use Rattle.zim_decimal.specs.Literal.{literal_answer}
 use Rattle.zim_plain.specs.Reader.{literal_of}
 use Rattle.zim_plain.proofs.Literals.{zero_ok, literal_past}

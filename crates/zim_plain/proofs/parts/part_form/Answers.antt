@@ -1,5 +1,4 @@
 -- A number is a constant form, and a multiple of a column is within the limit.
-use Rattle.std.proofs.Common.{sym, ◌∙◌}
 use Rattle.zim_plain.proofs.PartLaws.{form_of_number, part_answer}
 use Rattle.zim_plain.proofs.parts.part_form.Goals as goal
 

@@ -1,5 +1,5 @@
 -- Each part is added to the form, and the first that is past is the fault.
-use Rattle.std.proofs.Common.{sym, ◌∙◌, ap, [], arith}
+use Rattle.std.proofs.Common.{◌∙◌, ap, []}
 use Rattle.zim_linear.specs.Forms.{form_of}
 use Rattle.zim_plain.proofs.PartLaws.{add_start, add_step, add_past, add_end, none_left, part_first}
 use Rattle.zim_plain.proofs.parts.parts_form.Goals as goal

@@ -1,5 +1,4 @@
 -- A number is a constant form, and parts have theirs.
-use Rattle.std.proofs.Common.{sym, ◌∙◌, ap, subst, refl}
 use Rattle.zim_plain.proofs.PartLaws.{known_form, parts_have_form}
 use Rattle.zim_plain.proofs.parts.side_form.Goals as goal
 

@@ -1,6 +1,5 @@
 use Rattle.std.proofs.Common.{ap₂, Option, ℕ}
 use Rattle.zim_rational.specs.Rational.{Rational}
-use Rattle.zim_plain.specs.declared.parts.Part.{Part}
 use Rattle.zim_plain.specs.Reader.{item_of}
 use Rattle.zim_plain.proofs.ReadLaws.{part_ok, part_from}
 use Rattle.zim_plain.proofs.sides.part.Goals as goal

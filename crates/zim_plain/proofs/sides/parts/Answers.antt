@@ -1,9 +1,8 @@
 -- The parts are read one after another, and the first number that is past is the fault.
-use Rattle.std.proofs.Common.{sym, ◌∙◌, ap, map, List}
+use Rattle.std.proofs.Common.{sym, ap, map, List}
 use Rattle.zim_plain.specs.declared.statement.Further as code
 use Rattle.zim_plain.specs.Reader.{further_of, sum_of}
 use Rattle.zim_plain.proofs.SuitLaws.{sum_first, sum_others}
-use Rattle.zim_plain.proofs.Faulting.{first_of_first}
 use Rattle.zim_plain.proofs.ReadLaws.{read_start, read_suits, read_step, read_stop, read_end}
 use Rattle.zim_plain.proofs.sides.parts.Goals as goal
 

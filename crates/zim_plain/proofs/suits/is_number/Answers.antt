@@ -1,5 +1,5 @@
 -- A text with a sign is no number token, and one without is a number token where it is a field.
-use Rattle.std.proofs.Common.{sym, ◌∙◌, ap, Ok, Some, None}
+use Rattle.std.proofs.Common.{sym, ◌∙◌, ap, Ok}
 use Rattle.zim_plain.proofs.TokenTests.{sign_no_number, no_field, some_field, past_field}
 use Rattle.zim_plain.proofs.suits.is_number.Goals as goal
 

@@ -1,10 +1,9 @@
 -- The objective is added, or it may not follow, or one of its numbers is past.
-use Rattle.std.proofs.Common.{◌++◌, ◌∷◌, [], ◌∙◌, ap, sym, refl, nat_eq, ◌≡◌, Some, ℕ}
+use Rattle.std.proofs.Common.{◌++◌, ◌∷◌, [], ◌∙◌, ap, sym, refl, nat_eq, Some, ℕ}
 use mathlib.Core.Bool.{true≢false}
 use Rattle.std.specs.Cmp.Lexicographic.{pointwise}
 use Rattle.indexmap.specs.IndexSet.{insert_key}
-use Rattle.zim_fault.specs.declared.faults.Place.{Place}
-use Rattle.zim_plain.specs.Statements.{Statement, Objective, Text}
+use Rattle.zim_plain.specs.Statements.{Objective, Text}
 use Rattle.zim_plain.specs.Reader.{heading_of, sum_of}
 use Rattle.zim_plain.specs.Build.{built}
 use Rattle.zim_plain.proofs.AddLaws.{refused, objective_faulty, built_objective, added_objective}

@@ -1,13 +1,12 @@
 -- The variable is added, or its name is taken, or there are too many columns.
-use Rattle.std.proofs.Common.{◌++◌, ◌∷◌, [], ◌∙◌, ap, sym, refl, nat_eq, ◌≡◌}
+use Rattle.std.proofs.Common.{◌++◌, ◌∷◌, [], ◌∙◌, ap, sym, refl, nat_eq}
 use Rattle.std.specs.Cmp.Lexicographic.{pointwise}
 use Rattle.indexmap.specs.IndexSet.{insert_key}
 use Rattle.zim_plain.specs.Statements.{Variable, Text}
 use Rattle.zim_plain.specs.Reader.{heading_of}
-use Rattle.zim_plain.specs.Build.{Built, built}
+use Rattle.zim_plain.specs.Build.{built}
 use Rattle.zim_plain.proofs.AddLaws.{refused, column_refused, built_variable, added_variable, small_variable}
-use Rattle.zim_plain.proofs.BuildLaws.{taken_stays_out, with_variable}
-use Rattle.zim_rows.specs.System.{with_column, column_of}
+use Rattle.zim_plain.proofs.BuildLaws.{taken_stays_out}
 use Rattle.zim_plain.proofs.builder.Builder.add_variable.Goals as goal
 
 pub returns-then-is_taken-clause-adds : goal.returns-then-is_taken-clause-adds
