@@ -1,4 +1,4 @@
-ghost use Rattle.std.specs.Prelude.{◌≡◌, ◌↔◌, IsTrue, IfOk, map, string_bytes, ◌++◌};
+ghost use Rattle.std.specs.Prelude.{◌≡◌, IfOk, map, string_bytes, ◌++◌};
 ghost use Rattle.std.specs.Str.{bytes_eq};
 ghost use Rattle.zim_cli.specs.Job.{job_of, is_operand, is_output_of};
 

@@ -1,4 +1,4 @@
-ghost use Rattle.std.specs.Prelude.{ℕ, ◌<◌, length, IsSome};
+ghost use Rattle.std.specs.Prelude.{◌<◌, length, IsSome};
 ghost use Rattle.zim_gate.specs.Folder.{FolderState, Opens, Reads, Begins, Puts, Ends, IsSound};
 
 use crate::stops::{BeginStop, Failed, OpenStop};

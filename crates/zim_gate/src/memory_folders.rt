@@ -1,4 +1,4 @@
-ghost use Rattle.std.specs.Prelude.{◌≡◌, ◌+◌, ◌≤◌, ◌<◌, ◌⊎◌, ◌↔◌, [], length, take, IsTrue, IsSome, IsErr, IsErrOf, IfOk, Contains, option_copied};
+ghost use Rattle.std.specs.Prelude.{◌≡◌, ◌<◌, ◌⊎◌, ◌↔◌, [], length, take, IsTrue, IsSome, IsErr, IsErrOf, IfOk, option_copied};
 ghost use Rattle.zim_gate.specs.Stored.{is_ready};
 
 use crate::calls::{Calls, counted_on, one_more};

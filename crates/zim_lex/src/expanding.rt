@@ -1,4 +1,4 @@
-ghost use Rattle.std.specs.Prelude.{◌≡◌, ◌+◌, ◌*◌, ◌≤◌, ◌<◌, None, [], ◌∷◌, ◌++◌, length, IfOk};
+ghost use Rattle.std.specs.Prelude.{◌≡◌, ◌+◌, ◌≤◌, ◌<◌, None, [], ◌∷◌, ◌++◌, length};
 ghost use Rattle.zim_gate.specs.declared.stops.OpenStop.TheVariants as open_stop;
 ghost use Rattle.zim_lex.specs.Expanded.{includes, opened, taken};
 ghost use Rattle.zim_lex.specs.Expanding.{Expands, IfKnown, OpensFile, IsUnread};

@@ -1,5 +1,4 @@
 ghost use Rattle.std.specs.Prelude.{◌≡◌, option_map};
-ghost use Rattle.std.specs.List.{prefix_len};
 ghost use Rattle.zim_lex.specs.Includes as includes;
 
 use crate::numbers::after;

@@ -1,4 +1,4 @@
-ghost use Rattle.std.specs.Prelude.{◌≡◌, ◌+◌, ◌≤◌, ◌<◌, length, take, Some, None, if◌then◌else◌, IfOk, true};
+ghost use Rattle.std.specs.Prelude.{◌≡◌, ◌<◌, length, Some, None, if◌then◌else◌, IfOk, true};
 ghost use Rattle.std.specs.List.{prefix_len};
 ghost use Rattle.zim_fault.specs.declared.tokens.Token.TheVariants as tokens;
 ghost use Rattle.zim_lex.specs.Classes as class;

@@ -1,4 +1,4 @@
-ghost use Rattle.std.specs.Prelude.{◌≡◌, IfOk};
+ghost use Rattle.std.specs.Prelude.{◌≡◌};
 ghost use Rattle.zim_answer.specs.Gives.{Gives};
 ghost use Rattle.zim_lex.specs.Causes.{lex_cause};
 ghost use Rattle.zim_lex.specs.Statements.{ends_statement, statements_of};

@@ -1,5 +1,5 @@
 // Multiples of forms that have whole numbers alone.
-ghost use Rattle.std.specs.Prelude.{◌≡◌, ◌≤◌, ◌≤ℤ◌, pos, unsigned_abs, IfOk};
+ghost use Rattle.std.specs.Prelude.{◌≤◌, ◌≤ℤ◌, pos, unsigned_abs, IfOk};
 ghost use Rattle.std.specs.Result.{OkIff};
 ghost use Rattle.zim_fraction.specs.Limit.{limit};
 ghost use Rattle.zim_linear.specs.Integers.{multiple_from, common_multiple, IsLeastMultiple, IsLeastWhole, IntegerAnswer};

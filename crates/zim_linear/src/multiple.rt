@@ -1,5 +1,4 @@
 // Multiples of forms.
-ghost use Rattle.std.specs.Prelude.{◌≡◌};
 ghost use Rattle.zim_linear.specs.Forms.{AreTerms};
 ghost use Rattle.zim_linear.specs.Answers.{FormAnswer};
 ghost use Rattle.zim_linear.specs.Multiples.{IsMultipleWithin, IsMultipleOf, ScaledAnswer, ProductAnswer};

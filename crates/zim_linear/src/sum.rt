@@ -1,6 +1,6 @@
 // Sums and differences of forms.
 ghost use Rattle.std.specs.Prelude.{◌≡◌, ◌++◌, IsTrue, IfOk};
-ghost use Rattle.zim_linear.specs.Forms.{AreTerms, form_of};
+ghost use Rattle.zim_linear.specs.Forms.{AreTerms};
 ghost use Rattle.zim_linear.specs.Answers.{FormAnswer};
 ghost use Rattle.zim_linear.specs.Sums as exact;
 ghost use Rattle.zim_linear.specs.Sums.{IsSumWithin, IsSumOf, TermsAnswer, PushAnswer, AddedAnswer, negated_form, IsDifferenceWithin, IsDifferenceOf};

@@ -6,7 +6,7 @@ use Rattle.std.specs.List.{enumerate_from, list_any}
 use Rattle.std.proofs.lemmas.List.{append-nil, take_all}
 use Rattle.std.proofs.lemmas.List.Elements.{All-more, filter-append}
 use Rattle.zim_rational.specs.Rational as rational
-use Rattle.zim_rational.specs.Rational.{Rational, ratio, whole, negate}
+use Rattle.zim_rational.specs.Rational.{Rational, whole}
 use Rattle.zim_decimal.specs.Short.{short_text, decimal_text, point_and, decimals}
 use Rattle.zim_linear.specs.Forms.{Term}
 use Rattle.zim_rows.specs.declared.rows.Column.{Column}

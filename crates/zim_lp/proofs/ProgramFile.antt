@@ -7,7 +7,7 @@ use Rattle.std.proofs.lemmas.List.{map-append}
 use Rattle.std.proofs.lemmas.List.Elements.{recursion_from_All}
 use Rattle.std.proofs.lemmas.Bool.Decides.{nat_tests}
 use Rattle.zim_rational.specs.Rational as rational
-use Rattle.zim_rational.specs.Rational.{Rational, same}
+use Rattle.zim_rational.specs.Rational.{same}
 use Rattle.zim_linear.specs.Forms.{Term}
 use Rattle.zim_instance.specs.Instance as instance
 use Rattle.zim_instance.specs.System.{NamedColumn, System, HasDistinctNames}

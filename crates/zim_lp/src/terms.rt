@@ -1,5 +1,5 @@
 // Lists of terms: those of a row, and those of the objective, which has its constant behind them.
-ghost use Rattle.std.specs.Prelude.{◌≡◌, ◌≢◌, ℕ, [], ◌∷◌, ◌++◌, length, map, flat_map, All, IsTrue, if◌then◌else◌, codes};
+ghost use Rattle.std.specs.Prelude.{◌≡◌, ℕ, [], ◌∷◌, ◌++◌, map, flat_map, All, IsTrue};
 ghost use Rattle.std.specs.List.{enumerate_from};
 ghost use Rattle.zim_decimal.specs.Short as decimal;
 ghost use Rattle.zim_gate.specs.Pen.{Writes};

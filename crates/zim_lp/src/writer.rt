@@ -1,7 +1,6 @@
 ghost use Rattle.std.specs.Prelude.{◌≡◌, IsSome};
 ghost use Rattle.zim_gate.specs.Folder.{Puts};
 ghost use Rattle.zim_rows.specs.Finished.{program_of};
-ghost use Rattle.zim_rows.specs.Named as named;
 ghost use Rattle.zim_lp.specs.Correct.{SaysProgram};
 ghost use Rattle.zim_lp.specs.FileText.{aim_text};
 ghost use Rattle.zim_lp.specs.Text.{lp_text};
@@ -9,7 +8,6 @@ ghost use Rattle.zim_lp.specs.Text.{lp_text};
 use crate::columns::{offset_bound, put_bounds, put_generals};
 use crate::rows::put_rows;
 use crate::terms::put_objective;
-use zim_fraction::Fraction;
 use zim_gate::{Failed, Folder, Pen};
 use zim_rows::Finished;
 
@@ -36,17 +34,10 @@ pub fn write<F: Folder>(system: &Finished, folder: &mut F) -> Result<(), PutFaul
     put_rows(&mut pen, columns.len(), system.rows.as_slice());
     pen.put(b"Bounds\n");
     put_bounds(&mut pen, columns);
-    pen.put(offset_bound(has_offset(system)));
+    pen.put(offset_bound(system.has_offset()));
     put_generals(&mut pen, columns);
     pen.put(b"End\n");
     pen.finish()
-}
-
-// Whether the file has the column `one`.
-fn has_offset(system: &Finished) -> bool
-    ensures { result ≡ named.has_offset (program_of system.now) }
-{
-    system.columns.len() == 0 || !system.target.constant.same_number(&Fraction::zero())
 }
 
 fn text_of_aim(maximises: bool) -> &'static [u8]

@@ -4,7 +4,7 @@ use Rattle.std.specs.Prelude.{codes, option_and_then}
 use Rattle.std.specs.List.{AllByRecursion}
 use Rattle.zim_rational.specs.Rational.{whole, times}
 use Rattle.zim_instance.specs.Instance as instance
-use Rattle.zim_instance.specs.Instance.{Instance, Point, KeepsRow}
+use Rattle.zim_instance.specs.Instance.{Instance, KeepsRow}
 use Rattle.zim_instance.specs.System.{Says}
 use Rattle.zim_rows.specs.Program.{LinearProgram, IsProgram}
 use Rattle.zim_rows.specs.Named.{named_objective}

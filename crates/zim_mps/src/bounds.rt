@@ -1,17 +1,14 @@
 // The section BOUNDS.
 ghost use Rattle.std.specs.Prelude.{◌≡◌, ◌≤◌, flat_map, length, All, IsTrue};
 ghost use Rattle.std.specs.List.{AllByRecursion, enumerate_from};
-ghost use Rattle.zim_rational.specs.Rational.{Rational};
 ghost use Rattle.zim_decimal.specs.Short.{is_short};
 ghost use Rattle.zim_gate.specs.Pen.{Writes};
 ghost use Rattle.zim_rows.specs.Covered.{written_side};
 ghost use Rattle.zim_rows.specs.Finished.{program_of};
-ghost use Rattle.zim_rows.specs.Named as named;
 ghost use Rattle.zim_mps.specs.Puts.{name_text, column_sides_text, HasReadableColumnSides, IsShortSide};
 ghost use Rattle.zim_mps.specs.Readable.{IsReadable, IsReadableSide, HasReadableSides};
 ghost use Rattle.zim_mps.specs.Text.{file_columns, offset_columns, bound_text, end_text, infinite_text, sides_text};
 
-use crate::columns::has_offset;
 use crate::names::{ColumnName, put_name, put_number};
 use zim_decimal::is_short as fits;
 use zim_fraction::Fraction;
@@ -66,7 +63,7 @@ fn put_offset_bounds<F: Folder>(pen: &mut Pen<F>, system: &Finished)
     ensures text { Writes F.state pen.old pen.new (flat_map bound_text (offset_columns (program_of system.now))) }
     ensures reads { AllByRecursion HasReadableSides (offset_columns (program_of system.now)) }
 {
-    if has_offset(system) {
+    if system.has_offset() {
         let sides = Sides {
             low: Some(Fraction::one()),
             high: Some(Fraction::one()),

@@ -4,7 +4,6 @@ ghost use Rattle.std.specs.List.{AllByRecursion};
 ghost use Rattle.zim_decimal.specs.Short.{is_short};
 ghost use Rattle.zim_gate.specs.Pen.{Writes};
 ghost use Rattle.zim_rows.specs.Finished.{program_of};
-ghost use Rattle.zim_rows.specs.Named as named;
 ghost use Rattle.zim_rows.specs.Program.{IsShortTerm};
 ghost use Rattle.zim_mps.specs.Puts.{name_text, offset_text};
 ghost use Rattle.zim_mps.specs.Readable.{IsReadable, IsReadableTerm, IsReadableColumn};
@@ -16,13 +15,6 @@ use zim_fraction::Fraction;
 use zim_gate::{Folder, Pen};
 use zim_linear::Term;
 use zim_rows::Finished;
-
-/// Whether the column `one` stands: where there is no other column, and where the objective has a constant.
-pub(crate) fn has_offset(system: &Finished) -> bool
-    ensures { result ≡ named.has_offset (program_of system.now) }
-{
-    system.columns.len() == 0 || !system.target.constant.same_number(&Fraction::zero())
-}
 
 /// Puts the lines of COLUMNS.
 pub(crate) fn put_columns<F: Folder>(pen: &mut Pen<F>, system: &Finished)
@@ -76,7 +68,7 @@ fn put_offset<F: Folder>(pen: &mut Pen<F>, system: &Finished)
     ensures text { Writes F.state pen.old pen.new (offset_text (program_of system.now)) }
     ensures reads { AllByRecursion IsReadableColumn (offset_columns (program_of system.now)) }
 {
-    if has_offset(system) {
+    if system.has_offset() {
         let cost = minimised_cost(system.target.maximize, system.target.constant);
         put_column(pen, ColumnName::Offset, cost, &[]);
     }

@@ -1,5 +1,5 @@
 -- Each fraction is (x - y)/d for plain numbers x, y and d, and each operation and comparison is read off these.
-use Rattle.std.proofs.Common.{ℕ, ℤ, pos, negsuc, neg_ℤ, ◌≡◌, ◌+◌, ◌*◌, ◌/◌, ◌<◌, ◌≤◌, ◌+ℤ◌, ◌-ℤ◌, ◌*ℤ◌, ◌↔◌, zero, suc, lit<, IsTrue, Bool, true, arith, refl, sym, ap, subst, subst₂, mul_comm, ◌∙◌, mul-pos, mul-zero, zero-lt-suc, unsigned_abs, nat_lt, nat_eq}
+use Rattle.std.proofs.Common.{ℕ, ℤ, pos, negsuc, neg_ℤ, ◌≡◌, ◌+◌, ◌*◌, ◌/◌, ◌<◌, ◌≤◌, ◌+ℤ◌, ◌-ℤ◌, ◌*ℤ◌, ◌↔◌, zero, suc, lit<, IsTrue, Bool, arith, refl, sym, ap, subst, mul_comm, ◌∙◌, mul-pos, mul-zero, zero-lt-suc, unsigned_abs, nat_lt, nat_eq}
 use Rattle.std.proofs.lemmas.Bool.{and_parts, both_ways, not-true, not_from_false, false_from_ne_true, ltb-true, eqb-true}
 use Rattle.std.proofs.lemmas.Int.{ints}
 use Rattle.std.specs.Int.{◌∣◌}
@@ -7,7 +7,7 @@ use borrow.Author.Differences.{up, down, sum_is_lem, product_is, neg_is, quot_is
 use native.Mathlib.Nat.{lt_of_not-le, eq_of_mul-eq-mul_right, le_of_mul-le-mul_right, mul-le-mul_right, mul-div_cancel', zero-div}
 use Rattle.zim_rational.specs.Gcd.{gcd, gcd-is, one_lowest}
 use Rattle.zim_rational.specs.Rational as Q
-use Rattle.zim_rational.specs.Rational.{Rational, is_lowest, ratio, plus, times, negate, at_most, below, minus, whole, same_from_parts}
+use Rattle.zim_rational.specs.Rational.{Rational, ratio, plus, times, negate, at_most, below, minus, whole, same_from_parts}
 
 -- q is (x - y)/d
 pub record IsFraction (q : Rational) (x y d : ℕ) : Type 0 where

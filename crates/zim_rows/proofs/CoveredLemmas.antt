@@ -2,7 +2,7 @@
 use Rattle.std.proofs.Common.{ℕ, suc, ◌≡◌, ◌<◌, ◌+◌, ◌-◌, ◌↔◌, Bool, true, false, cond, IsFalse, List, [], ◌∷◌, length, map, get_or, Option, Some, None, IfSome, All, arith, refl, ap, ap₂, sym, ◌∙◌, subst}
 use Rattle.std.proofs.lemmas.List.Elements.{All-nil, All-cons, All-contains}
 use Rattle.zim_rational.specs.Rational as rational
-use Rattle.zim_rational.specs.Rational.{Rational, one, plus, times, IsAtMost}
+use Rattle.zim_rational.specs.Rational.{Rational, one, plus, IsAtMost}
 use Rattle.zim_rational.proofs.Ring.{plus_zero, one_times}
 use Rattle.zim_decimal.specs.Short.{is_short}
 use Rattle.zim_linear.specs.Forms.{Assignment, sum_at}

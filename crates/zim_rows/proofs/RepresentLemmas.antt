@@ -15,7 +15,7 @@ use Rattle.zim_rational.proofs.Whole.{same_Decides}
 use Rattle.zim_instance.specs.Instance as instance
 use Rattle.zim_instance.specs.Instance.{Instance, Point, KeepsName, IsFrom, IsUpTo, number_at}
 use Rattle.zim_instance.specs.System as named
-use Rattle.zim_instance.specs.System.{Says, NamedColumn, column_named, numbers_of, point_of, KeepsColumns}
+use Rattle.zim_instance.specs.System.{Says, numbers_of, point_of, KeepsColumns}
 use Rattle.zim_instance.proofs.Points.{IsPoint-point_of, IsSolution-numbers_of, IsPoint-is_point_of, numbers_of-point_of}
 use Rattle.zim_linear.specs.Forms.{Term, AreColumns, sum_at}
 use Rattle.zim_rows.specs.declared.rows.Column.{Column}

@@ -5,7 +5,7 @@ use Rattle.std.proofs.lemmas.Bool.{and_parts, leb-true}
 use Rattle.std.proofs.lemmas.List.Elements.{All-nil, All-cons, All-tail, All-head}
 use Rattle.zim_fault.specs.declared.faults.Fault.{Fault}
 use Rattle.zim_rational.specs.Rational as rational
-use Rattle.zim_rational.specs.Rational.{Rational, zero, negate, IsBelow}
+use Rattle.zim_rational.specs.Rational.{Rational, zero, negate}
 use Rattle.zim_fraction.specs.Limit.{limit, is_number, is_sum_within}
 use Rattle.zim_decimal.specs.Short.{is_short}
 use Rattle.zim_linear.specs.Forms.{Term}

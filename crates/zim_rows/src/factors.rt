@@ -1,5 +1,5 @@
 // The factors of rows and of the objective.
-ghost use Rattle.std.specs.Prelude.{◌≡◌, ◌≤◌, List, [], ◌∷◌, ◌++◌, IfOk};
+ghost use Rattle.std.specs.Prelude.{◌≤◌, List, [], ◌∷◌, ◌++◌, IfOk};
 ghost use Rattle.std.specs.Result.{OkIff};
 ghost use Rattle.zim_fraction.specs.Limit.{limit};
 ghost use Rattle.zim_rational.specs.Gcd as divisors;

@@ -14,6 +14,7 @@ mod factors;
 mod faults;
 mod finished;
 mod laws;
+mod offset;
 mod rows;
 mod scaled;
 mod system;

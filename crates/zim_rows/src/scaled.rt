@@ -1,5 +1,5 @@
 // Rows and the objective times their factors.
-ghost use Rattle.std.specs.Prelude.{◌≡◌, ◌≤◌, ◌<◌, pos, length, map, IsTrue, Ok, Err};
+ghost use Rattle.std.specs.Prelude.{◌≡◌, ◌≤◌, ◌<◌, IsTrue, Ok, Err};
 ghost use Rattle.std.specs.Result.{OkIff};
 ghost use Rattle.zim_fraction.specs.Limit.{limit};
 ghost use Rattle.zim_rows.specs.Factors.{kind_within};

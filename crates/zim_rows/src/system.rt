@@ -1,4 +1,4 @@
-ghost use Rattle.std.specs.Prelude.{◌≡◌, ℕ, ◌<◌, ◌≤◌, ◌↔◌, List, [], ◌∷◌, ◌++◌, length, map, slice_index_or, false, IsTrue, Option, Some, IfOk, OnOk, OnErr};
+ghost use Rattle.std.specs.Prelude.{◌≡◌, ◌<◌, ◌≤◌, ◌↔◌, List, [], ◌∷◌, ◌++◌, length, map, slice_index_or, false, IsTrue, Option, Some, IfOk, OnOk, OnErr};
 ghost use Rattle.zim_rational.specs.Rational.{Rational, IsBelow, times, whole};
 ghost use Rattle.zim_linear.specs.Forms.{AreTerms, AreColumns};
 ghost use Rattle.zim_linear.specs.Ends.{IsUncrossed};

@@ -1,10 +1,9 @@
-ghost use Rattle.std.specs.Prelude.{◌≡◌, ℕ, pos, ◌≤ℤ◌, ◌+◌, ◌^◌, ◌<◌, ◌==◌, if◌then◌else◌, Some, flat_map, length, option_map, All, IfSome, IsSome};
+ghost use Rattle.std.specs.Prelude.{◌≡◌, pos, ◌≤ℤ◌, ◌+◌, ◌^◌, ◌<◌, ◌==◌, if◌then◌else◌, Some, flat_map, length, option_map, All, IfSome, IsSome};
 ghost use Rattle.std.specs.List.{enumerate_from};
 ghost use Rattle.std.specs.List.Sorted.{IsNonDecreasingBy};
 ghost use Rattle.zim_gate.specs.Folder.{Puts};
 ghost use Rattle.zim_gate.specs.Pen.{Writes};
 ghost use Rattle.zim_rows.specs.Finished.{program_of};
-ghost use Rattle.zim_rows.specs.Named as named;
 ghost use Rattle.zim_table.specs.Correct.{IsStatement, CanBeListed, table_said};
 ghost use Rattle.zim_table.specs.Reader.{table};
 ghost use Rattle.zim_table.specs.Text as text;
@@ -12,7 +11,6 @@ ghost use Rattle.zim_table.specs.Text.{statement_of, statement_name, factor_text
 
 use crate::names::Names;
 use zim_fault::Bytes;
-use zim_fraction::Fraction;
 use zim_gate::{Failed, Folder, Pen};
 use zim_rows::{Finished, Row};
 
@@ -44,7 +42,7 @@ pub fn write<F: Folder>(
     put_factor(&mut pen, b"mps", minimised);
     put_objective(&mut pen, system.target.maximize, names);
     put_variables(&mut pen, vars);
-    pen.put(text_of_offset(has_offset(system)));
+    pen.put(text_of_offset(system.has_offset()));
     put_rows(&mut pen, system.rows.as_slice(), names);
     pen.put(b"end\n");
     pen.finish()
@@ -56,13 +54,6 @@ fn minimised_factor(maximises: bool, factor: i128) -> i128
     ensures { result ≡ text.minimised_factor maximises factor }
 {
     if maximises { -factor } else { factor }
-}
-
-/// Whether the files have the column `one`.
-fn has_offset(system: &Finished) -> bool
-    ensures { result ≡ named.has_offset (program_of system.now) }
-{
-    system.columns.is_empty() || !system.target.constant.same_number(&Fraction::zero())
 }
 
 fn put_factor<F: Folder>(pen: &mut Pen<F>, format: &[u8], factor: i128)
