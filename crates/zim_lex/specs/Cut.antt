@@ -1,6 +1,6 @@
 -- The pieces of a line, each as long as it can be where it begins.
 use Rattle.std.specs.Prelude.{◌≡◌, ℕ, zero, suc, ◌<◌, ◌≤◌, List, [], ◌∷◌, ◌++◌, length, take, drop, true, false, if◌then◌else◌, Option, Some, None, Ok, Err}
-use Rattle.zim_answer.specs.Answer.{Answer}
+use Rattle.zim_answer.specs.Answer.{Answer, ◌>>=◌}
 use Rattle.zim_fault.specs.declared.kinds.Kind.{Kind}
 use Rattle.zim_fault.specs.declared.kinds.Kind.TheVariants.{BadByte, OpenString}
 use Rattle.zim_lex.specs.Classes.{is_quote}
