@@ -1,0 +1,36 @@
+-- The laws of typed trees: what belongs to a tree under a scope suits the scope.
+use Rattle.std.specs.Prelude.{◌≡◌, None}
+use Rattle.zim_tree.specs.declared.expr.Expr.{Expr}
+use Rattle.zim_tree.specs.declared.stmt.Stmt.{Stmt}
+use Rattle.zim_tree.specs.StatementMade.{MadeStatement}
+use Rattle.zim_typed.specs.declared.constant.Const.{Const}
+use Rattle.zim_typed.specs.declared.constraint.Term.{Term}
+use Rattle.zim_typed.specs.declared.constraint.Cond.{Cond}
+use Rattle.zim_typed.specs.declared.constraint.Con.{Con}
+use Rattle.zim_typed.specs.declared.statement.TStmt.{TStmt}
+use Rattle.zim_typed.specs.Scope.{Names, Scope, declared}
+use Rattle.zim_typed.specs.Constants.{IsConst}
+use Rattle.zim_typed.specs.Terms.{IsTerm, IsCond, IsCon}
+use Rattle.zim_typed.specs.Statements.{IsTyped}
+use Rattle.zim_typed.specs.Suits.{SuitsConst, SuitsTerm, SuitsCond, SuitsCon}
+use Rattle.zim_typed.specs.SuitsStatement.{SuitsStatement}
+
+-- the constant that an expression is suits the scope and the names
+abbrev pub ConstantSuits : Type 0
+ConstantSuits = (scope : Scope) (names : Names) (e : Expr) (c : Const) → IsConst scope names e c → SuitsConst scope names c
+
+-- the term that an expression is suits them
+abbrev pub TermSuits : Type 0
+TermSuits = (scope : Scope) (names : Names) (e : Expr) (t : Term) → IsTerm scope names e t → SuitsTerm scope names t
+
+-- the condition that an expression is suits them
+abbrev pub ConditionSuits : Type 0
+ConditionSuits = (scope : Scope) (names : Names) (e : Expr) (c : Cond) → IsCond scope names e c → SuitsCond scope names c
+
+-- the constraint that an expression is suits them
+abbrev pub ConstraintSuits : Type 0
+ConstraintSuits = (scope : Scope) (names : Names) (e : Expr) (c : Con) → IsCon scope names e c → SuitsCon scope names c
+
+-- the typed statement that a statement is suits the scope, where the statement is made of its parts and its name is new
+abbrev pub StatementSuits : Type 0
+StatementSuits = (scope : Scope) (stmt : Stmt) (typed : TStmt) → MadeStatement stmt → declared scope stmt.name ≡ None → IsTyped scope stmt typed → SuitsStatement scope typed

@@ -1,0 +1,10 @@
+pub mod Trees
+pub mod Scope
+pub mod Variables
+pub mod Pattern
+pub mod Constants
+pub mod Terms
+pub mod Statements
+pub mod Suits
+pub mod SuitsStatement
+pub mod Law

@@ -1,0 +1,83 @@
+-- Whether variables stand in a tree: the name of one, or `vabs`.
+use Rattle.std.specs.Prelude.{List, map, Bool, true, false, ◌||◌, Option, Some, None}
+use Rattle.std.specs.List.{list_any}
+use Rattle.zim_fault.specs.declared.words.Word.{Word}
+use Rattle.zim_fault.specs.declared.words.Word.TheVariants.{WVabs}
+use Rattle.zim_tree.specs.declared.expr.Expr.{Expr, Expr-F, fold-Expr}
+use Rattle.zim_tree.specs.declared.expr.Angle.{Angle-F}
+use Rattle.zim_tree.specs.declared.expr.Index.{Index-F}
+use Rattle.zim_tree.specs.declared.expr.Body.{Body-F}
+use Rattle.zim_typed.specs.declared.scope.Declared.{Declared}
+use Rattle.zim_typed.specs.declared.scope.Declared.TheVariants.{Variable}
+use Rattle.zim_typed.specs.Scope.{Scope, declared}
+
+-- the name of a variable
+abbrev pub is_variable : Option Declared → Bool
+is_variable (Some (Variable indexed)) = true
+is_variable _ = false
+
+-- `vabs`
+abbrev pub is_vabs : Word → Bool
+is_vabs WVabs = true
+is_vabs _ = false
+
+-- one of these has variables
+abbrev pub one_of : List Bool → Bool
+one_of = list_any (λ has. has)
+
+-- a part has variables, if there is one
+abbrev pub given : Option Bool → Bool
+given None = false
+given (Some has) = has
+
+-- the condition of an index has variables, if there is one
+abbrev pub condition : Option (Bool × Bool) → Bool
+condition None = false
+condition (Some c) = c.1
+
+-- an expression, where it is known of its parts
+abbrev pub expr_step : Scope → Expr-F Bool Bool Bool Bool → Bool
+expr_step scope (Expr-F.Number place digits) = false
+expr_step scope (Expr-F.Text place text double) = false
+expr_step scope (Expr-F.Truth place truth) = false
+expr_step scope (Expr-F.Infinity place) = false
+expr_step scope (Expr-F.Name place name) = is_variable (declared scope name)
+expr_step scope (Expr-F.Item place name index) = is_variable (declared scope name) || one_of index
+expr_step scope (Expr-F.Call place name arguments) = is_variable (declared scope name) || one_of arguments
+expr_step scope (Expr-F.Func place function arguments) = is_vabs function || one_of arguments
+expr_step scope (Expr-F.Proj place set positions) = set || positions
+expr_step scope (Expr-F.Paren place inner) = inner
+expr_step scope (Expr-F.Braces place body) = body
+expr_step scope (Expr-F.If place vif test branch otherwise) = test || branch || given otherwise
+expr_step scope (Expr-F.Factorial operand places) = operand
+expr_step scope (Expr-F.Power place sign base signed exponent) = base || exponent
+expr_step scope (Expr-F.Signed place minus operand) = operand
+expr_step scope (Expr-F.Big place loop index with_do operand) = index || operand
+expr_step scope (Expr-F.Times first others) = first || one_of (map (λ x. x.2) others)
+expr_step scope (Expr-F.Plus first others) = first || one_of (map (λ x. x.2) others)
+expr_step scope (Expr-F.Compare first others) = first || one_of (map (λ x. x.2) others)
+expr_step scope (Expr-F.Member place tuple set) = tuple || set
+expr_step scope (Expr-F.Not place operand) = operand
+expr_step scope (Expr-F.And first others) = first || one_of (map (λ x. x.1) others)
+expr_step scope (Expr-F.Or first others) = first || one_of (map (λ x. x.2) others)
+expr_step scope (Expr-F.Forall place index with_do inside) = index || inside
+
+-- a tuple
+abbrev pub angle_step : Angle-F Bool Bool Bool Bool → Bool
+angle_step tuple = one_of tuple.items
+
+-- an index with its condition
+abbrev pub index_step : Index-F Bool Bool Bool Bool → Bool
+index_step index = index.tuple || index.set || condition index.cond
+
+-- what stands in braces
+abbrev pub body_step : Body-F Bool Bool Bool Bool → Bool
+body_step Body-F.Empty = false
+body_step (Body-F.Members members) = one_of members
+body_step (Body-F.Tuples tuples) = one_of tuples
+body_step (Body-F.Those index) = index
+body_step (Body-F.Span from with_to to by) = from || to || given by
+
+-- whether an expression has variables
+abbrev pub has_variables : Scope → Expr → Bool
+has_variables scope = fold-Expr Bool Bool Bool Bool body_step (expr_step scope) angle_step index_step
