@@ -292,12 +292,12 @@ fn show_tuples(tuples: &[Angle], to: &mut Shown) {
 pub fn show_index(index: &Index, to: &mut Shown) {
     show_tuple(&index.tuple, to);
     show_operator(b"in", index.place, to);
-    show(&index.set, to);
+    show(index.set.get(), to);
     match &index.cond {
         None => {}
         Some((bar, test)) => {
             to.put_one(*bar, b" with ", b" | ");
-            show(test, to);
+            show(test.get(), to);
         }
     }
 }

@@ -3,6 +3,7 @@
 
 use crate::shown::Shown;
 use crate::shown_exprs::{show, show_index, show_list, show_separator, show_tuple};
+use sqlite_items::Boxed;
 use zim_fault::{Bytes, Place, Word, word_text};
 use zim_tree::{
     Angle, Bracket, Doing, Expr, Limit, ParSide, Printed, Reading, SetSide, Shape, Stmt, Table,
@@ -73,12 +74,12 @@ fn show_brackets(bracket: &Option<Bracket>, to: &mut Shown) {
         Some(Bracket::Empty) => to.put(b"[]"),
         Some(Bracket::Loop(index)) => {
             to.put(b"[");
-            show_index(index, to);
+            show_index(index.get(), to);
             to.put(b"]");
         }
         Some(Bracket::Over(set)) => {
             to.put(b"[");
-            show(set, to);
+            show(set.get(), to);
             to.put(b"]");
         }
     }
@@ -128,10 +129,10 @@ fn show_par_side(side: &ParSide, to: &mut Shown) {
 /// Puts a `read` at the end.
 fn show_reading(reading: &Reading, to: &mut Shown) {
     to.put(b" read ");
-    show(&reading.file, to);
+    show(reading.file.get(), to);
     to.put_at(b" as", reading.place);
     to.put(b" ");
-    show(&reading.template, to);
+    show(reading.template.get(), to);
     for (place, word, operand) in reading.options.as_slice() {
         to.put(b" ");
         to.put_at(word_text(*word), *place);
@@ -175,13 +176,13 @@ fn show_limits(limits: &[Limit], to: &mut Shown) {
 }
 
 /// Puts a word and its operand at the end, if they are there.
-fn show_option(word: &[u8], option: &Option<(Place, Expr)>, to: &mut Shown) {
+fn show_option(word: &[u8], option: &Option<(Place, Boxed<Expr>)>, to: &mut Shown) {
     match option {
         None => {}
         Some((place, operand)) => {
             to.put_at(word, *place);
             to.put(b" ");
-            show(operand, to);
+            show(operand.get(), to);
         }
     }
 }

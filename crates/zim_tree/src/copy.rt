@@ -94,7 +94,7 @@ impl Expr {
 }
 
 #[cycle(copy)]
-fn copy_boxed(alloc: Global, tree: &Boxed<Expr>) -> Result<Boxed<Expr>, Memory>
+pub(crate) fn copy_boxed(alloc: Global, tree: &Boxed<Expr>) -> Result<Boxed<Expr>, Memory>
     ensures { IfOk result (λ made. made ≡ tree.now) }
 {
     Ok(Boxed::new(alloc, tree.get().copy(alloc)?)?)
@@ -216,7 +216,7 @@ impl Index {
     {
         let place = self.place;
         let tuple = self.tuple.copy(alloc)?;
-        let set = self.set.copy(alloc)?;
+        let set = copy_boxed(alloc, &self.set)?;
         match &self.cond {
             None => Ok(Index {
                 place,
@@ -225,7 +225,7 @@ impl Index {
                 cond: None,
             }),
             Some((bar, tree)) => {
-                let cond = Some((*bar, tree.copy(alloc)?));
+                let cond = Some((*bar, copy_boxed(alloc, tree)?));
                 Ok(Index {
                     place,
                     tuple,

@@ -1,6 +1,6 @@
 ghost use Rattle.std.specs.Prelude.{◌≡◌, IfOk};
 
-use crate::copy::{copy_boxed_index, copy_exprs};
+use crate::copy::{copy_boxed, copy_boxed_index, copy_exprs};
 use crate::expr::{Angle, Expr};
 use crate::stmt::{Bracket, Doing, Limit, ParSide, Printed, Reading, SetSide, Shape, Stmt, Table};
 use sqlite_items::{Boxed, Items};
@@ -59,8 +59,8 @@ impl Bracket {
     {
         match self {
             Bracket::Empty => Ok(Bracket::Empty),
-            Bracket::Loop(index) => Ok(Bracket::Loop(index.copy(alloc)?)),
-            Bracket::Over(set) => Ok(Bracket::Over(set.copy(alloc)?)),
+            Bracket::Loop(index) => Ok(Bracket::Loop(copy_boxed_index(alloc, index)?)),
+            Bracket::Over(set) => Ok(Bracket::Over(copy_boxed(alloc, set)?)),
         }
     }
 }
@@ -74,12 +74,15 @@ fn copy_brackets(alloc: Global, tree: &Option<Bracket>) -> Result<Option<Bracket
     }
 }
 
-fn copy_given(alloc: Global, tree: &Option<(Place, Expr)>) -> Result<Option<(Place, Expr)>, Memory>
+fn copy_given(
+    alloc: Global,
+    tree: &Option<(Place, Boxed<Expr>)>,
+) -> Result<Option<(Place, Boxed<Expr>)>, Memory>
     ensures { IfOk result (λ made. made ≡ tree.now) }
 {
     match tree {
         None => Ok(None),
-        Some((place, given)) => Ok(Some((*place, given.copy(alloc)?))),
+        Some((place, given)) => Ok(Some((*place, copy_boxed(alloc, given)?))),
     }
 }
 
@@ -200,8 +203,8 @@ impl Reading {
     {
         Ok(Reading {
             place: self.place,
-            file: self.file.copy(alloc)?,
-            template: self.template.copy(alloc)?,
+            file: copy_boxed(alloc, &self.file)?,
+            template: copy_boxed(alloc, &self.template)?,
             options: copy_options(alloc, self.options.as_slice())?,
         })
     }

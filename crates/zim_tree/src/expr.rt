@@ -72,9 +72,9 @@ pub struct Index {
     /// Of its `in`.
     pub place: Place,
     pub tuple: Angle,
-    pub set: Expr,
+    pub set: Boxed<Expr>,
     /// The condition, and whether a bar stands before it in place of `with`.
-    pub cond: Option<(bool, Expr)>,
+    pub cond: Option<(bool, Boxed<Expr>)>,
 }
 
 /// What stands in braces.

@@ -317,10 +317,10 @@ impl Index {
     {
         self.tuple.spell(to);
         to.put_word(Word::WIn);
-        self.set.spell(to);
+        self.set.get().spell(to);
         if let Some((bar, tree)) = &self.cond {
             put_bar_or_with(*bar, to);
-            tree.spell(to);
+            tree.get().spell(to);
         }
     }
 }

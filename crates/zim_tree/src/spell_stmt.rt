@@ -9,6 +9,7 @@ use crate::expr::{Angle, Expr};
 use crate::spell::{put_separator, spell_exprs};
 use crate::speller::Speller;
 use crate::stmt::{Bracket, Doing, Limit, ParSide, Printed, Reading, SetSide, Shape, Stmt, Table};
+use sqlite_items::Boxed;
 use std::alloc::Global;
 use zim_fault::{Bytes, Memory, Place, Sign, Token, Word};
 
@@ -111,11 +112,11 @@ impl Bracket {
                 to.put_sign(Sign::SRightBracket);
             }
             Bracket::Loop(index) => {
-                index.spell(to);
+                index.get().spell(to);
                 to.put_sign(Sign::SRightBracket);
             }
             Bracket::Over(set) => {
-                set.spell(to);
+                set.get().spell(to);
                 to.put_sign(Sign::SRightBracket);
             }
         }
@@ -123,12 +124,12 @@ impl Bracket {
 }
 
 /// Puts a word and its operand at the end, if there is one.
-fn spell_given(word: Word, given: &Option<(Place, Expr)>, to: &mut Speller)
+fn spell_given(word: Word, given: &Option<(Place, Boxed<Expr>)>, to: &mut Speller)
     ensures { Spells to.old to.new (stmt_spec.given_spelling word given.now) }
 {
     if let Some((_, operand)) = given {
         to.put_word(word);
-        operand.spell(to);
+        operand.get().spell(to);
     }
 }
 
@@ -248,9 +249,9 @@ impl Reading {
         ensures { Spells to.old to.new (stmt_spec.reading_spelling self.now) }
     {
         to.put_word(Word::WRead);
-        self.file.spell(to);
+        self.file.get().spell(to);
         to.put_word(Word::WAs);
-        self.template.spell(to);
+        self.template.get().spell(to);
         spell_options(self.options.as_slice(), to);
     }
 }

@@ -20,7 +20,13 @@ pub enum Shape {
     Set(Option<Bracket>, SetSide),
     Param(Option<Bracket>, ParSide),
     /// The index, the kind, the bounds, `priority` and `startval`.
-    Var(Option<Bracket>, Option<Word>, Items<Limit>, Option<(Place, Expr)>, Option<(Place, Expr)>),
+    Var(
+        Option<Bracket>,
+        Option<Word>,
+        Items<Limit>,
+        Option<(Place, Boxed<Expr>)>,
+        Option<(Place, Boxed<Expr>)>,
+    ),
     /// An objective; the flag says `maximize`.
     Goal(bool, Expr),
     Subto(Expr),
@@ -33,8 +39,8 @@ pub enum Shape {
 #[derive(Drop)]
 pub enum Bracket {
     Empty,
-    Loop(Index),
-    Over(Expr),
+    Loop(Boxed<Index>),
+    Over(Boxed<Expr>),
 }
 
 /// What a set is declared to be.
@@ -50,10 +56,10 @@ pub enum SetSide {
 #[derive(Drop)]
 pub enum ParSide {
     Value(Expr),
-    Read(Reading, Option<(Place, Expr)>),
+    Read(Reading, Option<(Place, Boxed<Expr>)>),
     /// For each index the value that belongs to it.
-    Entries(Items<(Angle, Expr)>, Option<(Place, Expr)>),
-    Table(Table, Option<(Place, Expr)>),
+    Entries(Items<(Angle, Expr)>, Option<(Place, Boxed<Expr>)>),
+    Table(Table, Option<(Place, Boxed<Expr>)>),
     Default(Place, Expr),
 }
 
@@ -81,8 +87,8 @@ pub struct Limit {
 pub struct Reading {
     /// Of its `as`.
     pub place: Place,
-    pub file: Expr,
-    pub template: Expr,
+    pub file: Boxed<Expr>,
+    pub template: Boxed<Expr>,
     /// `skip`, `use` and `comment` with their operands, in the order of the text.
     pub options: Items<(Place, Word, Expr)>,
 }
