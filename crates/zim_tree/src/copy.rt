@@ -30,7 +30,9 @@ impl Expr {
                 Ok(Expr::Proj(*place, copy_boxed(alloc, set)?, positions.copy(alloc)?))
             }
             Expr::Paren(place, inner) => Ok(Expr::Paren(*place, copy_boxed(alloc, inner)?)),
-            Expr::Braces(place, body) => Ok(Expr::Braces(*place, body.copy(alloc)?)),
+            Expr::Braces(place, body) => {
+                Ok(Expr::Braces(*place, Boxed::new(alloc, body.get().copy(alloc)?)?))
+            }
             Expr::If(place, vif, test, then, otherwise) => Ok(Expr::If(
                 *place,
                 *vif,

@@ -16,7 +16,7 @@ impl Stmt {
             first: self.first,
             at: self.at,
             name: self.name.copy()?,
-            shape: self.shape.copy(alloc)?,
+            shape: Boxed::new(alloc, self.shape.get().copy(alloc)?)?,
         })
     }
 }
@@ -40,12 +40,14 @@ impl Shape {
                 copy_given(alloc, priority)?,
                 copy_given(alloc, startval)?,
             )),
-            Shape::Goal(maximize, objective) => Ok(Shape::Goal(*maximize, objective.copy(alloc)?)),
-            Shape::Subto(constraint) => Ok(Shape::Subto(constraint.copy(alloc)?)),
+            Shape::Goal(maximize, objective) => {
+                Ok(Shape::Goal(*maximize, copy_boxed(alloc, objective)?))
+            }
+            Shape::Subto(constraint) => Ok(Shape::Subto(copy_boxed(alloc, constraint)?)),
             Shape::Define(word, parameters, body) => Ok(Shape::Define(
                 *word,
                 copy_parameters(alloc, parameters.as_slice())?,
-                body.copy(alloc)?,
+                copy_boxed(alloc, body)?,
             )),
             Shape::Do(doing) => Ok(Shape::Do(doing.copy(alloc)?)),
         }
@@ -92,7 +94,7 @@ impl SetSide {
         ensures { IfOk result (λ made. made ≡ self.now) }
     {
         match self {
-            SetSide::Value(value) => Ok(SetSide::Value(value.copy(alloc)?)),
+            SetSide::Value(value) => Ok(SetSide::Value(copy_boxed(alloc, value)?)),
             SetSide::Read(reading) => Ok(SetSide::Read(reading.copy(alloc)?)),
             SetSide::Entries(entries) => {
                 Ok(SetSide::Entries(copy_entries(alloc, entries.as_slice())?))
@@ -107,7 +109,7 @@ impl ParSide {
         ensures { IfOk result (λ made. made ≡ self.now) }
     {
         match self {
-            ParSide::Value(value) => Ok(ParSide::Value(value.copy(alloc)?)),
+            ParSide::Value(value) => Ok(ParSide::Value(copy_boxed(alloc, value)?)),
             ParSide::Read(reading, default) => {
                 Ok(ParSide::Read(reading.copy(alloc)?, copy_given(alloc, default)?))
             }
@@ -119,7 +121,7 @@ impl ParSide {
                 Ok(ParSide::Table(table.copy(alloc)?, copy_given(alloc, default)?))
             }
             ParSide::Default(place, default) => {
-                Ok(ParSide::Default(*place, default.copy(alloc)?))
+                Ok(ParSide::Default(*place, copy_boxed(alloc, default)?))
             }
         }
     }
@@ -171,7 +173,7 @@ impl Limit {
         Ok(Limit {
             place: self.place,
             lower: self.lower,
-            side: self.side.copy(alloc)?,
+            side: copy_boxed(alloc, &self.side)?,
         })
     }
 }
@@ -232,7 +234,7 @@ impl Doing {
             Doing::Print(place, items) => {
                 Ok(Doing::Print(*place, copy_printed(alloc, items.as_slice())?))
             }
-            Doing::Check(place, test) => Ok(Doing::Check(*place, test.copy(alloc)?)),
+            Doing::Check(place, test) => Ok(Doing::Check(*place, copy_boxed(alloc, test)?)),
             Doing::Forall(place, index, with_do, body) => {
                 let index = copy_boxed_index(alloc, index)?;
                 let body = Boxed::new(alloc, body.get().copy(alloc)?)?;
@@ -258,7 +260,7 @@ impl Printed {
         ensures { IfOk result (λ made. made ≡ self.now) }
     {
         match self {
-            Printed::Value(value) => Ok(Printed::Value(value.copy(alloc)?)),
+            Printed::Value(value) => Ok(Printed::Value(copy_boxed(alloc, value)?)),
             Printed::Tuple(tuple) => Ok(Printed::Tuple(tuple.copy(alloc)?)),
         }
     }

@@ -27,7 +27,7 @@ pub enum Expr {
     /// `(a)`
     Paren(Place, Boxed<Expr>),
     /// `{ body }`
-    Braces(Place, Body),
+    Braces(Place, Boxed<Body>),
     /// `if a then b else c end`; the flag says `vif`.
     If(Place, bool, Boxed<Expr>, Boxed<Expr>, Option<Boxed<Expr>>),
     /// `a!!`, with the place of each `!`.

@@ -131,7 +131,7 @@ impl Expr {
             }
             Expr::Braces(_, body) => {
                 to.put_sign(Sign::SLeftBrace);
-                body.spell(to);
+                body.get().spell(to);
                 to.put_sign(Sign::SRightBrace);
             }
             Expr::If(_, vif, test, branch, otherwise) => {

@@ -18,7 +18,7 @@ pub fn spelled(alloc: Global, stmt: &Stmt) -> Result<Vec<Token>, Memory>
     ensures { IfOk result (λ tokens. tokens.items ≡ spelled_of stmt.now) }
 {
     let mut to = Speller::new(alloc);
-    stmt.shape.spell(&stmt.name, &mut to);
+    stmt.shape.get().spell(&stmt.name, &mut to);
     to.put_sign(Sign::SSemicolon);
     to.finish()
 }
@@ -61,12 +61,12 @@ impl Shape {
                 to.put_one_word(*maximize, Word::WMaximize, Word::WMinimize);
                 to.put_name(name);
                 to.put_sign(Sign::SColon);
-                objective.spell(to);
+                objective.get().spell(to);
             }
             Shape::Subto(constraint) => {
                 put_declared(Word::WSubto, name, to);
                 to.put_sign(Sign::SColon);
-                constraint.spell(to);
+                constraint.get().spell(to);
             }
             Shape::Define(word, parameters, body) => {
                 put_declared(*word, name, to);
@@ -74,7 +74,7 @@ impl Shape {
                 spell_parameters(parameters.as_slice(), to);
                 to.put_sign(Sign::SRightParen);
                 to.put_sign(Sign::SAssign);
-                body.spell(to);
+                body.get().spell(to);
             }
             Shape::Do(doing) => {
                 to.put_word(Word::WDo);
@@ -138,7 +138,7 @@ impl SetSide {
         ensures { Spells to.old to.new (stmt_spec.set_side_spelling self.now) }
     {
         match self {
-            SetSide::Value(value) => value.spell(to),
+            SetSide::Value(value) => value.get().spell(to),
             SetSide::Read(reading) => {
                 to.put_sign(Sign::SLeftBrace);
                 reading.spell(to);
@@ -154,7 +154,7 @@ impl ParSide {
         ensures { Spells to.old to.new (stmt_spec.par_side_spelling self.now) }
     {
         match self {
-            ParSide::Value(value) => value.spell(to),
+            ParSide::Value(value) => value.get().spell(to),
             ParSide::Read(reading, default) => {
                 reading.spell(to);
                 spell_given(Word::WDefault, default, to);
@@ -169,7 +169,7 @@ impl ParSide {
             }
             ParSide::Default(_, default) => {
                 to.put_word(Word::WDefault);
-                default.spell(to);
+                default.get().spell(to);
             }
         }
     }
@@ -226,7 +226,7 @@ fn spell_limits(limits: &[Limit], to: &mut Speller)
 {
     for limit in limits {
         to.put_one_sign(limit.lower, Sign::SGreaterEqual, Sign::SLessEqual);
-        limit.side.spell(to);
+        limit.side.get().spell(to);
     }
 }
 
@@ -277,7 +277,7 @@ impl Doing {
             }
             Doing::Check(_, test) => {
                 to.put_word(Word::WCheck);
-                test.spell(to);
+                test.get().spell(to);
             }
             Doing::Forall(_, index, with_do, body) => {
                 to.put_word(Word::WForall);
@@ -294,7 +294,7 @@ impl Printed {
         ensures { Spells to.old to.new (stmt_spec.printed_spelling self.now) }
     {
         match self {
-            Printed::Value(value) => value.spell(to),
+            Printed::Value(value) => value.get().spell(to),
             Printed::Tuple(tuple) => tuple.spell(to),
         }
     }

@@ -11,7 +11,7 @@ pub struct Stmt {
     pub at: Place,
     /// What it declares. A `do` declares nothing and has the empty name.
     pub name: Bytes,
-    pub shape: Shape,
+    pub shape: Boxed<Shape>,
 }
 
 /// What a statement says of its name.
@@ -28,10 +28,10 @@ pub enum Shape {
         Option<(Place, Boxed<Expr>)>,
     ),
     /// An objective; the flag says `maximize`.
-    Goal(bool, Expr),
-    Subto(Expr),
+    Goal(bool, Boxed<Expr>),
+    Subto(Boxed<Expr>),
     /// A function: the word that says what it gives, its parameters and its body.
-    Define(Word, Items<(Place, Bytes)>, Expr),
+    Define(Word, Items<(Place, Bytes)>, Boxed<Expr>),
     Do(Doing),
 }
 
@@ -46,7 +46,7 @@ pub enum Bracket {
 /// What a set is declared to be.
 #[derive(Drop)]
 pub enum SetSide {
-    Value(Expr),
+    Value(Boxed<Expr>),
     Read(Reading),
     /// For each index the set that belongs to it.
     Entries(Items<(Angle, Expr)>),
@@ -55,12 +55,12 @@ pub enum SetSide {
 /// What a parameter is declared to be, with a default behind the word `default`.
 #[derive(Drop)]
 pub enum ParSide {
-    Value(Expr),
+    Value(Boxed<Expr>),
     Read(Reading, Option<(Place, Boxed<Expr>)>),
     /// For each index the value that belongs to it.
     Entries(Items<(Angle, Expr)>, Option<(Place, Boxed<Expr>)>),
     Table(Table, Option<(Place, Boxed<Expr>)>),
-    Default(Place, Expr),
+    Default(Place, Boxed<Expr>),
 }
 
 /// `| "a", "b" |` and rows as `| 1 | 2, 3 |`.
@@ -79,7 +79,7 @@ pub struct Limit {
     pub place: Place,
     /// Whether it is a `>=`.
     pub lower: bool,
-    pub side: Expr,
+    pub side: Boxed<Expr>,
 }
 
 /// `read "file" as "template" skip 1`
@@ -97,7 +97,7 @@ pub struct Reading {
 #[derive(Drop)]
 pub enum Doing {
     Print(Place, Items<Printed>),
-    Check(Place, Expr),
+    Check(Place, Boxed<Expr>),
     /// `forall index : doing`; the flag says `do` in place of `:`.
     Forall(Place, Boxed<Index>, bool, Boxed<Doing>),
 }
@@ -105,6 +105,6 @@ pub enum Doing {
 /// What a `print` prints.
 #[derive(Drop)]
 pub enum Printed {
-    Value(Expr),
+    Value(Boxed<Expr>),
     Tuple(Angle),
 }
