@@ -136,7 +136,7 @@ pub fn show(tree: &Expr, to: &mut Shown) {
         }
         Expr::Braces(place, body) => {
             to.put(b"{");
-            show_body(body, to);
+            show_body(body.get(), to);
             to.put_at(b"}", *place);
         }
         Expr::If(place, vif, test, branch, otherwise) => {

@@ -11,13 +11,13 @@ use zim_tree::{
 
 /// Puts a statement at the end.
 pub fn show_stmt(stmt: &Stmt, to: &mut Shown) {
-    to.put_at(word_of_shape(&stmt.shape), stmt.first);
+    to.put_at(word_of_shape(stmt.shape.get()), stmt.first);
     if !stmt.name.is_empty() {
         to.put(b" ");
         to.put(stmt.name.as_slice());
     }
     to.put_place(stmt.at);
-    match &stmt.shape {
+    match stmt.shape.get() {
         Shape::Set(bracket, side) => {
             show_brackets(bracket, to);
             show_set_side(side, to);
@@ -38,16 +38,16 @@ pub fn show_stmt(stmt: &Stmt, to: &mut Shown) {
         }
         Shape::Goal(_, objective) => {
             to.put(b" : ");
-            show(objective, to);
+            show(objective.get(), to);
         }
         Shape::Subto(constraint) => {
             to.put(b" : ");
-            show(constraint, to);
+            show(constraint.get(), to);
         }
         Shape::Define(_, parameters, inside) => {
             show_parameters(parameters.as_slice(), to);
             to.put(b" := ");
-            show(inside, to);
+            show(inside.get(), to);
         }
         Shape::Do(doing) => show_doing(doing, to),
     }
@@ -91,7 +91,7 @@ fn show_set_side(side: &SetSide, to: &mut Shown) {
     match side {
         SetSide::Value(value) => {
             to.put(b" ");
-            show(value, to);
+            show(value.get(), to);
         }
         SetSide::Read(reading) => show_reading(reading, to),
         SetSide::Entries(entries) => show_entries(entries.as_slice(), to),
@@ -104,7 +104,7 @@ fn show_par_side(side: &ParSide, to: &mut Shown) {
     match side {
         ParSide::Value(value) => {
             to.put(b" ");
-            show(value, to);
+            show(value.get(), to);
         }
         ParSide::Read(reading, default) => {
             show_reading(reading, to);
@@ -121,7 +121,7 @@ fn show_par_side(side: &ParSide, to: &mut Shown) {
         ParSide::Default(place, value) => {
             to.put_at(b" default", *place);
             to.put(b" ");
-            show(value, to);
+            show(value.get(), to);
         }
     }
 }
@@ -171,7 +171,7 @@ fn show_limits(limits: &[Limit], to: &mut Shown) {
         to.put_one(limit.lower, b" <=", b" >=");
         to.put_place(limit.place);
         to.put(b" ");
-        show(&limit.side, to);
+        show(limit.side.get(), to);
     }
 }
 
@@ -207,7 +207,7 @@ fn show_doing(doing: &Doing, to: &mut Shown) {
         Doing::Check(place, test) => {
             to.put_at(b" check", *place);
             to.put(b" ");
-            show(test, to);
+            show(test.get(), to);
         }
         Doing::Forall(place, index, with_do, inside) => {
             to.put_at(b" forall", *place);
@@ -224,7 +224,7 @@ fn show_printed(items: &[Printed], to: &mut Shown) {
     for item in items {
         to.put(b" ");
         match item {
-            Printed::Value(value) => show(value, to),
+            Printed::Value(value) => show(value.get(), to),
             Printed::Tuple(tuple) => show_tuple(tuple, to),
         }
     }
