@@ -163,17 +163,17 @@ pub(crate) fn depth_of_angle(tuple: &Angle) -> Counts
 pub(crate) fn depth_of_index(index: &Index) -> Counts
     ensures { result ≡ counted (spec.index_depth index.now) }
 {
-    let rest = depth_of_expr(&index.set).then(depth_of_condition(&index.cond));
+    let rest = depth_of_expr(index.set.get()).then(depth_of_condition(&index.cond));
     depth_of_angle(&index.tuple).then(rest)
 }
 
 /// How deep the condition of an index nests, if there is one.
 #[cycle(depth)]
-fn depth_of_condition(condition: &Option<(bool, Expr)>) -> Counts
+fn depth_of_condition(condition: &Option<(bool, Boxed<Expr>)>) -> Counts
     ensures { result ≡ counted (spec.condition_depth condition.now) }
 {
     match condition {
-        Some((_, tree)) => depth_of_expr(tree),
+        Some((_, tree)) => depth_of_expr(tree.get()),
         None => Counts::plain(),
     }
 }

@@ -4,7 +4,7 @@ ghost use Rattle.zim_nesting.specs.Depth as spec;
 
 use crate::counts::Counts;
 use crate::exprs::{depth_of_angle, depth_of_expr, depth_of_exprs, depth_of_index};
-use sqlite_items::Items;
+use sqlite_items::{Boxed, Items};
 use zim_fault::{Place, Word};
 use zim_tree::{
     Angle, Bracket, Doing, Expr, Limit, ParSide, Printed, Reading, SetSide, Shape, Stmt, Table,
@@ -55,17 +55,17 @@ fn depth_of_bracket(bracket: &Bracket) -> Counts
 {
     match bracket {
         Bracket::Empty => Counts::plain().inside(),
-        Bracket::Loop(index) => depth_of_index(index).inside(),
-        Bracket::Over(set) => depth_of_expr(set).inside(),
+        Bracket::Loop(index) => depth_of_index(index.get()).inside(),
+        Bracket::Over(set) => depth_of_expr(set.get()).inside(),
     }
 }
 
 /// How deep a default, a priority or a start value nests, if there is one.
-fn depth_of_given(given: &Option<(Place, Expr)>) -> Counts
+fn depth_of_given(given: &Option<(Place, Boxed<Expr>)>) -> Counts
     ensures { result ≡ counted (spec.given_depth given.now) }
 {
     match given {
-        Some((_, operand)) => depth_of_expr(operand),
+        Some((_, operand)) => depth_of_expr(operand.get()),
         None => Counts::plain(),
     }
 }
@@ -165,8 +165,10 @@ fn depth_of_options(options: &[(Place, Word, Expr)]) -> Counts
 fn depth_of_reading(reading: &Reading) -> Counts
     ensures { result ≡ counted (spec.reading_depth reading.now) }
 {
-    let rest = depth_of_expr(&reading.template).then(depth_of_options(reading.options.as_slice()));
-    depth_of_expr(&reading.file).then(rest)
+    let rest = depth_of_expr(reading.template.get()).then(depth_of_options(
+        reading.options.as_slice(),
+    ));
+    depth_of_expr(reading.file.get()).then(rest)
 }
 
 /// How deep nests what a `print` prints.

@@ -15,7 +15,7 @@ use Rattle.zim_tree.specs.Levels.{Level, primary, postfix, power, unary, product
 use Rattle.zim_tree.specs.Grammar.{Reads, a_number, a_name, a_postfix, no_power, no_sign, no_loop_sign, a_product, a_loop, a_chain, no_not, no_forall, no_operand, an_operand}
 use Rattle.zim_tree.specs.Plain.{to_nowhere, plain}
 use Rattle.zim_tree.specs.Spelling.{spelling}
-use Rattle.zim_tree.proofs.SpellingLemmas.{spelling-Compare, spelling-Plus, spelling-Name, spelling-Number}
+use Rattle.zim_tree.proofs.SpellingLaws.{spelling-Compare, spelling-Plus, spelling-Name, spelling-Number}
 use Rattle.zim_tree.proofs.ReplacedLemmas.{replaced-Compare, replaced-Plus}
 use Rattle.zim_parse.specs.Law.{Tight}
 use Rattle.zim_parse.specs.GroupingLaw.{minus_token, x_byte, y_byte, one_byte, two_byte, grouped_left, grouped_right, SubtractionGroupsLeft}

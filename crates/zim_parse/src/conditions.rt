@@ -1,6 +1,6 @@
 //! Comparisons and what joins them.
 
-ghost use Rattle.std.specs.Prelude.{◌≡◌, length, IfOk};
+ghost use Rattle.std.specs.Prelude.{◌≡◌, length};
 ghost use Rattle.zim_tree.specs.Levels as level;
 ghost use Rattle.zim_tree.specs.Levels.{relations, conjunctions, disjunctions};
 ghost use Rattle.zim_parse.specs.Outcome.{Gives, Nests};
@@ -14,7 +14,7 @@ use crate::grammar::{Grammar, Wanted};
 use crate::next::{CONJUNCTION, DISJUNCTION, RELATION};
 use crate::tokens::Tokens;
 use sqlite_items::{Boxed, Items};
-use std::alloc::{AllocError, Global};
+use std::alloc::Global;
 use zim_fault::{Place, Relation, Sign, Token, Word};
 use zim_tree::{Class, Expr};
 
@@ -40,41 +40,33 @@ fn is_xor(token: &Token) -> bool
 }
 
 /// A comparison, unless the first operand stands alone.
-fn related(
-    alloc: Global,
-    first: Expr,
-    others: Items<(Place, Relation, Expr)>,
-) -> Result<Expr, AllocError>
-    ensures { IfOk result (λ e. e ≡ turns.related first others) }
+fn related(first: Boxed<Expr>, others: Items<(Place, Relation, Expr)>) -> Expr
+    ensures { result ≡ turns.related first others }
 {
     if others.len() == 0 {
-        return Ok(first);
+        return first.into_inner();
     }
-    Ok(Expr::Compare(Boxed::new(alloc, first)?, others))
+    Expr::Compare(first, others)
 }
 
 /// A conjunction, unless the first operand stands alone.
-fn both(alloc: Global, first: Expr, others: Items<(Place, Expr)>) -> Result<Expr, AllocError>
-    ensures { IfOk result (λ e. e ≡ turns.both first others) }
+fn both(first: Boxed<Expr>, others: Items<(Place, Expr)>) -> Expr
+    ensures { result ≡ turns.both first others }
 {
     if others.len() == 0 {
-        return Ok(first);
+        return first.into_inner();
     }
-    Ok(Expr::And(Boxed::new(alloc, first)?, others))
+    Expr::And(first, others)
 }
 
 /// A disjunction, unless the first operand stands alone.
-fn either(
-    alloc: Global,
-    first: Expr,
-    others: Items<(Place, bool, Expr)>,
-) -> Result<Expr, AllocError>
-    ensures { IfOk result (λ e. e ≡ turns.either first others) }
+fn either(first: Boxed<Expr>, others: Items<(Place, bool, Expr)>) -> Expr
+    ensures { result ≡ turns.either first others }
 {
     if others.len() == 0 {
-        return Ok(first);
+        return first.into_inner();
     }
-    Ok(Expr::Or(Boxed::new(alloc, first)?, others))
+    Expr::Or(first, others)
 }
 
 impl<F: Fn(Global, &mut Tokens<'_>, usize, Wanted) -> Result<Expr, Failure>> Grammar<F> {
@@ -127,9 +119,9 @@ impl<F: Fn(Global, &mut Tokens<'_>, usize, Wanted) -> Result<Expr, Failure>> Gra
         requires { Nests self.now.depth (F.pre self.now.inner) (F.post self.now.inner) }
         ensures { Gives (spec.chain_of relations (spec.sum_of (parse self.now.depth)) tokens.old) result tokens.new }
     {
-        let first = self.sum(tokens)?;
+        let first = Boxed::new(self.alloc, self.sum(tokens)?)?;
         let others = self.compared(tokens)?;
-        Ok(related(self.alloc, first, others)?)
+        Ok(related(first, others))
     }
 
     /// A membership or a comparison.
@@ -194,9 +186,9 @@ impl<F: Fn(Global, &mut Tokens<'_>, usize, Wanted) -> Result<Expr, Failure>> Gra
         requires { Nests self.now.depth (F.pre self.now.inner) (F.post self.now.inner) }
         ensures { Gives (spec.conjunction_of (parse self.now.depth) tokens.old) result tokens.new }
     {
-        let first = self.negation(tokens)?;
+        let first = Boxed::new(self.alloc, self.negation(tokens)?)?;
         let others = self.conjuncts(tokens)?;
-        Ok(both(self.alloc, first, others)?)
+        Ok(both(first, others))
     }
 
     /// The next `or` or `xor` with its operand, if one comes next.
@@ -233,8 +225,8 @@ impl<F: Fn(Global, &mut Tokens<'_>, usize, Wanted) -> Result<Expr, Failure>> Gra
         requires { Nests self.now.depth (F.pre self.now.inner) (F.post self.now.inner) }
         ensures { Gives (spec.disjunction_of (parse self.now.depth) tokens.old) result tokens.new }
     {
-        let first = self.conjunction(tokens)?;
+        let first = Boxed::new(self.alloc, self.conjunction(tokens)?)?;
         let others = self.disjuncts(tokens)?;
-        Ok(either(self.alloc, first, others)?)
+        Ok(either(first, others))
     }
 }

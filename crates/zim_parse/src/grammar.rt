@@ -5,6 +5,7 @@ ghost use Rattle.zim_parse.specs.Parser.{parse, at_level};
 
 use crate::failure::Failure;
 use crate::tokens::Tokens;
+use sqlite_items::Boxed;
 use std::alloc::Global;
 use zim_tree::Expr;
 
@@ -33,5 +34,17 @@ impl<F: Fn(Global, &mut Tokens<'_>, usize, Wanted) -> Result<Expr, Failure>> Gra
         ensures { Gives (parse self.now.depth (level_wanted level) tokens.old) result tokens.new }
     {
         (self.inner)(self.alloc, tokens, self.depth, level)
+    }
+
+    /// The same in a box.
+    pub fn inner_boxed(
+        &self,
+        tokens: &mut Tokens<'_>,
+        level: Wanted,
+    ) -> Result<Boxed<Expr>, Failure>
+        requires { Nests self.now.depth (F.pre self.now.inner) (F.post self.now.inner) }
+        ensures { Gives (parse self.now.depth (level_wanted level) tokens.old) result tokens.new }
+    {
+        Ok(Boxed::new(self.alloc, self.inner(tokens, level)?)?)
     }
 }

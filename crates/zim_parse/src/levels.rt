@@ -22,7 +22,7 @@ impl<F: Fn(Global, &mut Tokens<'_>, usize, Wanted) -> Result<Expr, Failure>> Gra
     {
         let index = Boxed::new(self.alloc, self.index(tokens)?)?;
         let with_do = tokens.separator()?;
-        let inside = Boxed::new(self.alloc, self.inner(tokens, Wanted::Whole)?)?;
+        let inside = self.inner_boxed(tokens, Wanted::Whole)?;
         Ok(Expr::Forall(place, index, with_do, inside))
     }
 

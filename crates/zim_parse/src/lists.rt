@@ -9,7 +9,7 @@ ghost use Rattle.zim_parse.specs.Turns.{comma_turn};
 use crate::failure::Failure;
 use crate::grammar::{Grammar, Wanted};
 use crate::tokens::Tokens;
-use sqlite_items::Items;
+use sqlite_items::{Boxed, Items};
 use std::alloc::Global;
 use zim_fault::Place;
 use zim_tree::{Angle, Class, Expr, Index};
@@ -126,7 +126,7 @@ impl<F: Fn(Global, &mut Tokens<'_>, usize, Wanted) -> Result<Expr, Failure>> Gra
         requires { Nests self.now.depth (F.pre self.now.inner) (F.post self.now.inner) }
         ensures { Gives (spec.index_behind (parse self.now.depth) tuple place tokens.old) result tokens.new }
     {
-        let set = self.inner(tokens, Wanted::Sum)?;
+        let set = self.inner_boxed(tokens, Wanted::Sum)?;
         match tokens.eat_condition() {
             None => Ok(Index {
                 place,
@@ -135,7 +135,7 @@ impl<F: Fn(Global, &mut Tokens<'_>, usize, Wanted) -> Result<Expr, Failure>> Gra
                 cond: None,
             }),
             Some(bar) => {
-                let cond = self.inner(tokens, Wanted::Disjunction)?;
+                let cond = self.inner_boxed(tokens, Wanted::Disjunction)?;
                 Ok(Index {
                     place,
                     tuple,

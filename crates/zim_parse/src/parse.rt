@@ -25,7 +25,7 @@ fn whole_statement(alloc: Global, tokens: &[Placed]) -> Result<Stmt, Failure>
     if rest.len() != 0 {
         return Err(Failure::Syntax);
     }
-    Ok(stmt)
+    Ok(stmt.into_inner())
 }
 
 /// The one tight statement that the tokens spell, its `;` among them, with the places that they give its

@@ -1,6 +1,6 @@
 //! Factorials, powers and signs.
 
-ghost use Rattle.std.specs.Prelude.{◌≡◌, IfOk};
+ghost use Rattle.std.specs.Prelude.{◌≡◌};
 ghost use Rattle.zim_tree.specs.Levels.{factorial};
 ghost use Rattle.zim_parse.specs.Outcome.{Gives, Nests};
 ghost use Rattle.zim_parse.specs.Parser as spec;
@@ -13,18 +13,18 @@ use crate::marks::marks;
 use crate::next::{POWER, sign_in};
 use crate::tokens::Tokens;
 use sqlite_items::{Boxed, Items};
-use std::alloc::{AllocError, Global};
+use std::alloc::Global;
 use zim_fault::{Place, Placed};
 use zim_tree::Expr;
 
 /// The tree of an operand with `!` at these places.
-fn factorial(alloc: Global, operand: Expr, marks: Items<Place>) -> Result<Expr, AllocError>
-    ensures { IfOk result (λ e. e ≡ factorial operand marks) }
+fn factorial(operand: Boxed<Expr>, marks: Items<Place>) -> Expr
+    ensures { result ≡ factorial operand marks }
 {
     if marks.len() == 0 {
-        return Ok(operand);
+        return operand.into_inner();
     }
-    Ok(Expr::Factorial(Boxed::new(alloc, operand)?, marks))
+    Expr::Factorial(operand, marks)
 }
 
 impl<F: Fn(Global, &mut Tokens<'_>, usize, Wanted) -> Result<Expr, Failure>> Grammar<F> {
@@ -34,9 +34,9 @@ impl<F: Fn(Global, &mut Tokens<'_>, usize, Wanted) -> Result<Expr, Failure>> Gra
         requires { Nests self.now.depth (F.pre self.now.inner) (F.post self.now.inner) }
         ensures { Gives (spec.postfix_of (parse self.now.depth) tokens.old) result tokens.new }
     {
-        let operand = self.primary(tokens)?;
+        let operand = Boxed::new(self.alloc, self.primary(tokens)?)?;
         let places = marks(self.alloc, tokens)?;
-        Ok(factorial(self.alloc, operand, places)?)
+        Ok(factorial(operand, places))
     }
 
     /// The power whose base was read, behind its operator.

@@ -28,11 +28,11 @@ impl<F: Fn(Global, &mut Tokens<'_>, usize, Wanted) -> Result<Expr, Failure>> Gra
         requires { Nests self.now.depth (F.pre self.now.inner) (F.post self.now.inner) }
         ensures { Gives (steps.span_behind (parse self.now.depth) from with_to tokens.old) result tokens.new }
     {
-        let to = Boxed::new(self.alloc, self.inner(tokens, Wanted::Sum)?)?;
+        let to = self.inner_boxed(tokens, Wanted::Sum)?;
         if tokens.eat(Class::By).is_none() {
             return Ok(Body::Span(from, with_to, to, None));
         }
-        let by = Boxed::new(self.alloc, self.inner(tokens, Wanted::Sum)?)?;
+        let by = self.inner_boxed(tokens, Wanted::Sum)?;
         Ok(Body::Span(from, with_to, to, Some(by)))
     }
 
@@ -134,7 +134,7 @@ impl<F: Fn(Global, &mut Tokens<'_>, usize, Wanted) -> Result<Expr, Failure>> Gra
             tokens.expect(Class::End)?;
             return Ok(None);
         }
-        let otherwise = Boxed::new(self.alloc, self.inner(tokens, Wanted::Whole)?)?;
+        let otherwise = self.inner_boxed(tokens, Wanted::Whole)?;
         tokens.expect(Class::End)?;
         Ok(Some(otherwise))
     }
@@ -162,9 +162,9 @@ impl<F: Fn(Global, &mut Tokens<'_>, usize, Wanted) -> Result<Expr, Failure>> Gra
         requires { Nests self.now.depth (F.pre self.now.inner) (F.post self.now.inner) }
         ensures { Gives (spec.if_from (parse self.now.depth) place vif tokens.old) result tokens.new }
     {
-        let test = Boxed::new(self.alloc, self.inner(tokens, Wanted::Disjunction)?)?;
+        let test = self.inner_boxed(tokens, Wanted::Disjunction)?;
         tokens.expect(Class::Then)?;
-        let branch = Boxed::new(self.alloc, self.inner(tokens, Wanted::Whole)?)?;
+        let branch = self.inner_boxed(tokens, Wanted::Whole)?;
         self.choice_end(tokens, place, vif, test, branch)
     }
 
@@ -186,7 +186,7 @@ impl<F: Fn(Global, &mut Tokens<'_>, usize, Wanted) -> Result<Expr, Failure>> Gra
         ensures { Gives (spec.projection_from (parse self.now.depth) place tokens.old) result tokens.new }
     {
         tokens.expect(Class::LeftParen)?;
-        let set = Boxed::new(self.alloc, self.inner(tokens, Wanted::Disjunction)?)?;
+        let set = self.inner_boxed(tokens, Wanted::Disjunction)?;
         tokens.expect(Class::Comma)?;
         let positions = self.tuple(tokens)?;
         tokens.expect(Class::RightParen)?;
@@ -217,7 +217,7 @@ impl<F: Fn(Global, &mut Tokens<'_>, usize, Wanted) -> Result<Expr, Failure>> Gra
     {
         match sign {
             Sign::SLeftParen => {
-                let inner = Boxed::new(self.alloc, self.inner(tokens, Wanted::Disjunction)?)?;
+                let inner = self.inner_boxed(tokens, Wanted::Disjunction)?;
                 tokens.expect(Class::RightParen)?;
                 Ok(Expr::Paren(place, inner))
             }

@@ -15,48 +15,40 @@ use crate::next::{PRODUCT, PRODUCT_WITH_LOOP, SUM, word_in};
 use crate::tokens::Tokens;
 use sqlite_items::{Boxed, Items};
 use std::alloc::{AllocError, Global};
-use zim_fault::{Duplicate, Memory, Place, Placed, Token, Word};
+use zim_fault::{Duplicate, Place, Placed, Token, Word};
 use zim_tree::{Class, Expr, class_of};
 
 /// A product, unless the first operand stands alone.
-fn multiplied(
-    alloc: Global,
-    first: Expr,
-    others: Items<(Place, Token, Expr)>,
-) -> Result<Expr, AllocError>
-    ensures { IfOk result (λ e. e ≡ turns.multiplied first others) }
+fn multiplied(first: Boxed<Expr>, others: Items<(Place, Token, Expr)>) -> Expr
+    ensures { result ≡ turns.multiplied first others }
 {
     if others.len() == 0 {
-        return Ok(first);
+        return first.into_inner();
     }
-    Ok(Expr::Times(Boxed::new(alloc, first)?, others))
+    Expr::Times(first, others)
 }
 
 /// A sum, unless the first operand stands alone.
-fn added(
-    alloc: Global,
-    first: Expr,
-    others: Items<(Place, Token, Expr)>,
-) -> Result<Expr, AllocError>
-    ensures { IfOk result (λ e. e ≡ turns.added first others) }
+fn added(first: Boxed<Expr>, others: Items<(Place, Token, Expr)>) -> Expr
+    ensures { result ≡ turns.added first others }
 {
     if others.len() == 0 {
-        return Ok(first);
+        return first.into_inner();
     }
-    Ok(Expr::Plus(Boxed::new(alloc, first)?, others))
+    Expr::Plus(first, others)
 }
 
 /// The list of one operand behind its operator.
 fn one_operand(
     alloc: Global,
-    operator: &Placed,
+    place: Place,
+    token: Token,
     operand: Expr,
-) -> Result<Items<(Place, Token, Expr)>, Memory>
-    ensures { IfOk result (λ others. others ≡ (operator.now.place, operator.now.token, operand) ∷ []) }
+) -> Result<Items<(Place, Token, Expr)>, AllocError>
+    ensures { IfOk result (λ others. others ≡ (place, token, operand) ∷ []) }
 {
-    let token = operator.token.copy()?;
     let mut others = Items::new(alloc);
-    others.push((operator.place, token, operand))?;
+    others.push((place, token, operand))?;
     Ok(others)
 }
 
@@ -70,8 +62,9 @@ impl<F: Fn(Global, &mut Tokens<'_>, usize, Wanted) -> Result<Expr, Failure>> Gra
         let Some(operator) = tokens.operator(PRODUCT) else {
             return Ok(None);
         };
+        let token = operator.token.copy()?;
         let operand = self.unary(tokens)?;
-        Ok(Some((operator.place, operator.token.copy()?, operand)))
+        Ok(Some((operator.place, token, operand)))
     }
 
     /// The operators like `*` that come next, each with its operand.
@@ -95,9 +88,9 @@ impl<F: Fn(Global, &mut Tokens<'_>, usize, Wanted) -> Result<Expr, Failure>> Gra
         requires { Nests self.now.depth (F.pre self.now.inner) (F.post self.now.inner) }
         ensures { Gives (spec.product_of (parse self.now.depth) tokens.old) result tokens.new }
     {
-        let first = self.unary(tokens)?;
+        let first = Boxed::new(self.alloc, self.unary(tokens)?)?;
         let others = self.factors(tokens)?;
-        Ok(multiplied(self.alloc, first, others)?)
+        Ok(multiplied(first, others))
     }
 
     /// A loop behind its word.
@@ -108,7 +101,7 @@ impl<F: Fn(Global, &mut Tokens<'_>, usize, Wanted) -> Result<Expr, Failure>> Gra
     {
         let index = Boxed::new(self.alloc, self.index(tokens)?)?;
         let with_do = tokens.separator()?;
-        let operand = Boxed::new(self.alloc, self.inner(tokens, Wanted::Term)?)?;
+        let operand = self.inner_boxed(tokens, Wanted::Term)?;
         Ok(Expr::Big(place, word, index, with_do, operand))
     }
 
@@ -149,15 +142,16 @@ impl<F: Fn(Global, &mut Tokens<'_>, usize, Wanted) -> Result<Expr, Failure>> Gra
     fn times_loop(
         &self,
         tokens: &mut Tokens<'_>,
-        first: Expr,
+        first: Boxed<Expr>,
         operator: &Placed,
     ) -> Result<Expr, Failure>
         requires { Nests self.now.depth (F.pre self.now.inner) (F.post self.now.inner) }
         ensures { Gives (steps.loop_behind (parse self.now.depth) first operator.now tokens.old) result tokens.new }
     {
+        let token = operator.token.copy()?;
         let last = self.signed_loop(tokens)?;
-        let others = one_operand(self.alloc, operator, last)?;
-        Ok(multiplied(self.alloc, first, others)?)
+        let others = one_operand(self.alloc, operator.place, token, last)?;
+        Ok(multiplied(first, others))
     }
 
     /// An operand of a sum: a product, a loop, or a product with a loop as its last operand.
@@ -172,7 +166,7 @@ impl<F: Fn(Global, &mut Tokens<'_>, usize, Wanted) -> Result<Expr, Failure>> Gra
         let first = self.product(tokens)?;
         match tokens.operator(PRODUCT_WITH_LOOP) {
             None => Ok(first),
-            Some(operator) => self.times_loop(tokens, first, operator),
+            Some(operator) => { self.times_loop(tokens, Boxed::new(self.alloc, first)?, operator) }
         }
     }
 
@@ -185,8 +179,9 @@ impl<F: Fn(Global, &mut Tokens<'_>, usize, Wanted) -> Result<Expr, Failure>> Gra
         let Some(operator) = tokens.operator(SUM) else {
             return Ok(None);
         };
+        let token = operator.token.copy()?;
         let operand = self.term(tokens)?;
-        Ok(Some((operator.place, operator.token.copy()?, operand)))
+        Ok(Some((operator.place, token, operand)))
     }
 
     /// The operators like `+` that come next, each with its operand.
@@ -210,8 +205,8 @@ impl<F: Fn(Global, &mut Tokens<'_>, usize, Wanted) -> Result<Expr, Failure>> Gra
         requires { Nests self.now.depth (F.pre self.now.inner) (F.post self.now.inner) }
         ensures { Gives (spec.sum_of (parse self.now.depth) tokens.old) result tokens.new }
     {
-        let first = self.term(tokens)?;
+        let first = Boxed::new(self.alloc, self.term(tokens)?)?;
         let others = self.summands(tokens)?;
-        Ok(added(self.alloc, first, others)?)
+        Ok(added(first, others))
     }
 }

@@ -12,7 +12,7 @@ use crate::counts::each_once;
 use crate::failure::Failure;
 use crate::grammar::{Grammar, Wanted};
 use crate::tokens::Tokens;
-use sqlite_items::Items;
+use sqlite_items::{Boxed, Items};
 use std::alloc::Global;
 use zim_fault::{Place, Sign, Word};
 use zim_tree::{Angle, Class, Expr, Reading, Table};
@@ -52,8 +52,8 @@ impl<F: Fn(Global, &mut Tokens<'_>, usize, Wanted) -> Result<Expr, Failure>> Gra
         &self,
         tokens: &mut Tokens<'_>,
         place: Place,
-        file: Expr,
-        template: Expr,
+        file: Boxed<Expr>,
+        template: Boxed<Expr>,
     ) -> Result<Reading, Failure>
         requires { Nests self.now.depth (F.pre self.now.inner) (F.post self.now.inner) }
         ensures { Gives (steps.reading_end (parse self.now.depth) place file template tokens.old) result tokens.new }
@@ -77,9 +77,9 @@ impl<F: Fn(Global, &mut Tokens<'_>, usize, Wanted) -> Result<Expr, Failure>> Gra
         ensures { Gives (spec.reading_of (parse self.now.depth) tokens.old) result tokens.new }
     {
         tokens.expect_word(Word::WRead)?;
-        let file = self.inner(tokens, Wanted::Sum)?;
+        let file = self.inner_boxed(tokens, Wanted::Sum)?;
         let place = tokens.expect_word(Word::WAs)?;
-        let template = self.inner(tokens, Wanted::Sum)?;
+        let template = self.inner_boxed(tokens, Wanted::Sum)?;
         self.reading_end(tokens, place, file, template)
     }
 
@@ -143,14 +143,14 @@ impl<F: Fn(Global, &mut Tokens<'_>, usize, Wanted) -> Result<Expr, Failure>> Gra
         &self,
         tokens: &mut Tokens<'_>,
         word: Word,
-    ) -> Result<Option<(Place, Expr)>, Failure>
+    ) -> Result<Option<(Place, Boxed<Expr>)>, Failure>
         requires { Nests self.now.depth (F.pre self.now.inner) (F.post self.now.inner) }
         ensures { Gives (spec.given_of (parse self.now.depth) (word_test word) tokens.old) result tokens.new }
     {
         match tokens.eat_word(word) {
             None => Ok(None),
             Some(place) => {
-                let operand = self.inner(tokens, Wanted::Sum)?;
+                let operand = self.inner_boxed(tokens, Wanted::Sum)?;
                 Ok(Some((place, operand)))
             }
         }

@@ -12,7 +12,7 @@ use crate::failure::Failure;
 use crate::grammar::{Grammar, Wanted};
 use crate::next::is_family;
 use crate::tokens::Tokens;
-use sqlite_items::Items;
+use sqlite_items::{Boxed, Items};
 use std::alloc::Global;
 use zim_fault::{Sign, Token, Word};
 use zim_tree::{Bracket, Class, Expr, Limit, ParSide, SetSide, Shape};
@@ -242,10 +242,10 @@ impl<F: Fn(Global, &mut Tokens<'_>, usize, Wanted) -> Result<Expr, Failure>> Gra
         ensures { Gives (steps.bracket_inside (parse self.now.depth) tokens.old) result tokens.new }
     {
         if tokens.begins_less() {
-            let index = self.index(tokens)?;
+            let index = Boxed::new(self.alloc, self.index(tokens)?)?;
             Ok(Bracket::Loop(index))
         } else {
-            let set = self.inner(tokens, Wanted::Sum)?;
+            let set = self.inner_boxed(tokens, Wanted::Sum)?;
             Ok(Bracket::Over(set))
         }
     }

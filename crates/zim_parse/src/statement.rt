@@ -334,7 +334,7 @@ impl<F: Fn(Global, &mut Tokens<'_>, usize, Wanted) -> Result<Expr, Failure>> Gra
 
     /// A statement with its `;`.
     #[tactic(auto, unfolding(crate::specs::StatementParser::statement_of, crate::specs::Parser::and_then))]
-    pub fn statement(&self, tokens: &mut Tokens<'_>) -> Result<Stmt, Failure>
+    pub fn statement(&self, tokens: &mut Tokens<'_>) -> Result<Boxed<Stmt>, Failure>
         requires { Nests self.now.depth (F.pre self.now.inner) (F.post self.now.inner) }
         ensures { Gives (spec.statement_of (parse self.now.depth) tokens.old) result tokens.new }
     {
@@ -344,7 +344,7 @@ impl<F: Fn(Global, &mut Tokens<'_>, usize, Wanted) -> Result<Expr, Failure>> Gra
         let Token::Word(word) = first.token else {
             return Err(Failure::Syntax);
         };
-        let stmt = self.behind_first(tokens, first.place, word)?;
+        let stmt = Boxed::new(self.alloc, self.behind_first(tokens, first.place, word)?)?;
         tokens.expect_sign(Sign::SSemicolon)?;
         Ok(stmt)
     }

@@ -9,7 +9,9 @@ use zim_fault::{
     word_text,
 };
 use zim_parse::{ParseFault, parse_statement};
-use zim_tree::{Stmt, spelled};
+use zim_spelling::spelled;
+use zim_tree::Stmt;
+use zim_tree_copy::copy_stmt;
 
 /// Puts a fault at the end: its kind, the refused word of an `Unsupported`, and its line behind `@`.
 fn show_fault(fault: &Fault, to: &mut Shown) {
@@ -117,7 +119,7 @@ pub fn spells_itself(alloc: Global, text: &str) -> Result<bool, Fail> {
     let Ok(stmt) = parsed(alloc, tokens.as_slice())? else {
         return Ok(false);
     };
-    let copied = stmt.copy(alloc)?;
+    let copied = copy_stmt(alloc, &stmt)?;
     let spelling = spelled(alloc, &copied)?;
     if spelling.len() != tokens.len() {
         return Ok(false);

@@ -136,7 +136,7 @@ pub fn show(tree: &Expr, to: &mut Shown) {
         }
         Expr::Braces(place, body) => {
             to.put(b"{");
-            show_body(body, to);
+            show_body(body.get(), to);
             to.put_at(b"}", *place);
         }
         Expr::If(place, vif, test, branch, otherwise) => {
@@ -292,12 +292,12 @@ fn show_tuples(tuples: &[Angle], to: &mut Shown) {
 pub fn show_index(index: &Index, to: &mut Shown) {
     show_tuple(&index.tuple, to);
     show_operator(b"in", index.place, to);
-    show(&index.set, to);
+    show(index.set.get(), to);
     match &index.cond {
         None => {}
         Some((bar, test)) => {
             to.put_one(*bar, b" with ", b" | ");
-            show(test, to);
+            show(test.get(), to);
         }
     }
 }

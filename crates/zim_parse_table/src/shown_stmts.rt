@@ -3,6 +3,7 @@
 
 use crate::shown::Shown;
 use crate::shown_exprs::{show, show_index, show_list, show_separator, show_tuple};
+use sqlite_items::Boxed;
 use zim_fault::{Bytes, Place, Word, word_text};
 use zim_tree::{
     Angle, Bracket, Doing, Expr, Limit, ParSide, Printed, Reading, SetSide, Shape, Stmt, Table,
@@ -10,13 +11,13 @@ use zim_tree::{
 
 /// Puts a statement at the end.
 pub fn show_stmt(stmt: &Stmt, to: &mut Shown) {
-    to.put_at(word_of_shape(&stmt.shape), stmt.first);
+    to.put_at(word_of_shape(stmt.shape.get()), stmt.first);
     if !stmt.name.is_empty() {
         to.put(b" ");
         to.put(stmt.name.as_slice());
     }
     to.put_place(stmt.at);
-    match &stmt.shape {
+    match stmt.shape.get() {
         Shape::Set(bracket, side) => {
             show_brackets(bracket, to);
             show_set_side(side, to);
@@ -37,16 +38,16 @@ pub fn show_stmt(stmt: &Stmt, to: &mut Shown) {
         }
         Shape::Goal(_, objective) => {
             to.put(b" : ");
-            show(objective, to);
+            show(objective.get(), to);
         }
         Shape::Subto(constraint) => {
             to.put(b" : ");
-            show(constraint, to);
+            show(constraint.get(), to);
         }
         Shape::Define(_, parameters, inside) => {
             show_parameters(parameters.as_slice(), to);
             to.put(b" := ");
-            show(inside, to);
+            show(inside.get(), to);
         }
         Shape::Do(doing) => show_doing(doing, to),
     }
@@ -73,12 +74,12 @@ fn show_brackets(bracket: &Option<Bracket>, to: &mut Shown) {
         Some(Bracket::Empty) => to.put(b"[]"),
         Some(Bracket::Loop(index)) => {
             to.put(b"[");
-            show_index(index, to);
+            show_index(index.get(), to);
             to.put(b"]");
         }
         Some(Bracket::Over(set)) => {
             to.put(b"[");
-            show(set, to);
+            show(set.get(), to);
             to.put(b"]");
         }
     }
@@ -90,7 +91,7 @@ fn show_set_side(side: &SetSide, to: &mut Shown) {
     match side {
         SetSide::Value(value) => {
             to.put(b" ");
-            show(value, to);
+            show(value.get(), to);
         }
         SetSide::Read(reading) => show_reading(reading, to),
         SetSide::Entries(entries) => show_entries(entries.as_slice(), to),
@@ -103,7 +104,7 @@ fn show_par_side(side: &ParSide, to: &mut Shown) {
     match side {
         ParSide::Value(value) => {
             to.put(b" ");
-            show(value, to);
+            show(value.get(), to);
         }
         ParSide::Read(reading, default) => {
             show_reading(reading, to);
@@ -120,7 +121,7 @@ fn show_par_side(side: &ParSide, to: &mut Shown) {
         ParSide::Default(place, value) => {
             to.put_at(b" default", *place);
             to.put(b" ");
-            show(value, to);
+            show(value.get(), to);
         }
     }
 }
@@ -128,10 +129,10 @@ fn show_par_side(side: &ParSide, to: &mut Shown) {
 /// Puts a `read` at the end.
 fn show_reading(reading: &Reading, to: &mut Shown) {
     to.put(b" read ");
-    show(&reading.file, to);
+    show(reading.file.get(), to);
     to.put_at(b" as", reading.place);
     to.put(b" ");
-    show(&reading.template, to);
+    show(reading.template.get(), to);
     for (place, word, operand) in reading.options.as_slice() {
         to.put(b" ");
         to.put_at(word_text(*word), *place);
@@ -170,18 +171,18 @@ fn show_limits(limits: &[Limit], to: &mut Shown) {
         to.put_one(limit.lower, b" <=", b" >=");
         to.put_place(limit.place);
         to.put(b" ");
-        show(&limit.side, to);
+        show(limit.side.get(), to);
     }
 }
 
 /// Puts a word and its operand at the end, if they are there.
-fn show_option(word: &[u8], option: &Option<(Place, Expr)>, to: &mut Shown) {
+fn show_option(word: &[u8], option: &Option<(Place, Boxed<Expr>)>, to: &mut Shown) {
     match option {
         None => {}
         Some((place, operand)) => {
             to.put_at(word, *place);
             to.put(b" ");
-            show(operand, to);
+            show(operand.get(), to);
         }
     }
 }
@@ -206,7 +207,7 @@ fn show_doing(doing: &Doing, to: &mut Shown) {
         Doing::Check(place, test) => {
             to.put_at(b" check", *place);
             to.put(b" ");
-            show(test, to);
+            show(test.get(), to);
         }
         Doing::Forall(place, index, with_do, inside) => {
             to.put_at(b" forall", *place);
@@ -223,7 +224,7 @@ fn show_printed(items: &[Printed], to: &mut Shown) {
     for item in items {
         to.put(b" ");
         match item {
-            Printed::Value(value) => show(value, to),
+            Printed::Value(value) => show(value.get(), to),
             Printed::Tuple(tuple) => show_tuple(tuple, to),
         }
     }

@@ -1,5 +1,4 @@
-pub mod SpellingLemmas
-pub mod SpellerLaws
+pub mod SpellingLaws
 pub mod OperatorLemmas
 pub mod DerivationSpelling
 pub mod StatementDerivationSpelling

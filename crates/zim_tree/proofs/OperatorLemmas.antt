@@ -9,7 +9,7 @@ use Rattle.zim_tree.specs.declared.expr.Expr.{Expr}
 use Rattle.zim_tree.specs.Classes.{token_class}
 use Rattle.zim_tree.specs.Levels.{Chain, products, sums, relations, conjunctions, disjunctions, joins, Operands, relation_of, is_xor, compared, conjoined, disjoined, joined}
 use Rattle.zim_tree.specs.Spelling.{Tokens, relation_sign, spelling, operations_of, relations_of, conjuncts_of, disjuncts_of}
-use Rattle.zim_tree.proofs.SpellingLemmas.{spelling-Times, spelling-Plus, spelling-Compare, spelling-And, spelling-Or}
+use Rattle.zim_tree.proofs.SpellingLaws.{spelling-Times, spelling-Plus, spelling-Compare, spelling-And, spelling-Or}
 
 no : {A : Type 0} → false ≡ true → A
 no h = absurd (true≢false (sym h))

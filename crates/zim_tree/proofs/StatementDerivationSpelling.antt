@@ -23,7 +23,7 @@ use Rattle.zim_tree.specs.declared.stmt.Printed.{Printed}
 use Rattle.zim_tree.specs.StatementGrammar.{ReadsOptions, no_option, an_option, ReadsReading, a_reading, ReadsEntries, the_last_entry, one_more_entry, ReadsRows, the_last_row, one_more_row, ReadsTable, a_table, ReadsGiven, not_given, is_given, ReadsSetSide, a_set, a_set_read, a_family, a_set_for_each, sets_listed, ReadsParSide, a_value, a_value_read, a_value_for_each, values_listed, values_in_table, values_read, the_default, ReadsBracket, a_bracket_loop, a_bracket_over, ReadsBrackets, no_bracket, a_bracket, ReadsSetBrackets, filled_or_none, empty_brackets, ReadsKind, no_kind, a_kind, ReadsLimits, no_limit, a_limit, ReadsPrinted, a_printed_value, a_printed_tuple, ReadsPrintedList, the_last_printed, one_more_printed, ReadsDoing, a_print, a_check, for_each, ReadsNames, the_last_name, one_more_name, ReadsParameters, no_parameter, the_parameters, ReadsShape, a_set_statement, a_param_statement, a_var_statement, a_goal_statement, a_subto_statement, a_definition, a_do_statement, ReadsStatement, a_statement}
 use Rattle.zim_tree.specs.Spelling.{Tokens, with_commas, after_commas}
 use Rattle.zim_tree.specs.StatementSpelling.{bracket_spelling, brackets_spelling, option_spelling, reading_spelling, entry_spelling, entries_spelling, row_spelling, table_spelling, given_spelling, set_side_spelling, par_side_spelling, limit_spelling, kind_spelling, printed_spelling, doing_step, doing_spelling, parameter_spelling, shape_spelling, spelled_of}
-use Rattle.zim_tree.proofs.SpellingLemmas.{spelling-Func}
+use Rattle.zim_tree.proofs.SpellingLaws.{spelling-Func}
 use Rattle.zim_tree.proofs.DerivationSpelling.{tokens, tokens-append, reads-spelling, list-spelling, tuple-spelling, index-spelling}
 
 options-spelling : {ts : List Placed} {options : List (Place × Word × Expr)} → ReadsOptions ts options → tokens ts ≡ flat_map option_spelling options

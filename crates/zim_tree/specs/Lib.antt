@@ -1,6 +1,5 @@
 pub mod Trees
 pub mod Spelling
-pub mod Speller
 pub mod StatementSpelling
 pub mod Classes
 pub mod Levels

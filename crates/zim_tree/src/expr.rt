@@ -27,7 +27,7 @@ pub enum Expr {
     /// `(a)`
     Paren(Place, Boxed<Expr>),
     /// `{ body }`
-    Braces(Place, Body),
+    Braces(Place, Boxed<Body>),
     /// `if a then b else c end`; the flag says `vif`.
     If(Place, bool, Boxed<Expr>, Boxed<Expr>, Option<Boxed<Expr>>),
     /// `a!!`, with the place of each `!`.
@@ -72,9 +72,9 @@ pub struct Index {
     /// Of its `in`.
     pub place: Place,
     pub tuple: Angle,
-    pub set: Expr,
+    pub set: Boxed<Expr>,
     /// The condition, and whether a bar stands before it in place of `with`.
-    pub cond: Option<(bool, Expr)>,
+    pub cond: Option<(bool, Boxed<Expr>)>,
 }
 
 /// What stands in braces.

@@ -3,18 +3,12 @@
 #![tactic(auto)]
 
 mod classes;
-mod copy;
-mod copy_stmt;
 mod expr;
 mod first_place;
 mod law;
-mod spell;
-mod spell_stmt;
-mod speller;
 mod stmt;
 
 pub use classes::{Class, class_of};
 pub use expr::{Angle, Body, Expr, Index};
 pub use law::tight_trees_are_made;
-pub use spell_stmt::spelled;
 pub use stmt::{Bracket, Doing, Limit, ParSide, Printed, Reading, SetSide, Shape, Stmt, Table};

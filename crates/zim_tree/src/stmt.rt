@@ -11,7 +11,7 @@ pub struct Stmt {
     pub at: Place,
     /// What it declares. A `do` declares nothing and has the empty name.
     pub name: Bytes,
-    pub shape: Shape,
+    pub shape: Boxed<Shape>,
 }
 
 /// What a statement says of its name.
@@ -20,12 +20,18 @@ pub enum Shape {
     Set(Option<Bracket>, SetSide),
     Param(Option<Bracket>, ParSide),
     /// The index, the kind, the bounds, `priority` and `startval`.
-    Var(Option<Bracket>, Option<Word>, Items<Limit>, Option<(Place, Expr)>, Option<(Place, Expr)>),
+    Var(
+        Option<Bracket>,
+        Option<Word>,
+        Items<Limit>,
+        Option<(Place, Boxed<Expr>)>,
+        Option<(Place, Boxed<Expr>)>,
+    ),
     /// An objective; the flag says `maximize`.
-    Goal(bool, Expr),
-    Subto(Expr),
+    Goal(bool, Boxed<Expr>),
+    Subto(Boxed<Expr>),
     /// A function: the word that says what it gives, its parameters and its body.
-    Define(Word, Items<(Place, Bytes)>, Expr),
+    Define(Word, Items<(Place, Bytes)>, Boxed<Expr>),
     Do(Doing),
 }
 
@@ -33,14 +39,14 @@ pub enum Shape {
 #[derive(Drop)]
 pub enum Bracket {
     Empty,
-    Loop(Index),
-    Over(Expr),
+    Loop(Boxed<Index>),
+    Over(Boxed<Expr>),
 }
 
 /// What a set is declared to be.
 #[derive(Drop)]
 pub enum SetSide {
-    Value(Expr),
+    Value(Boxed<Expr>),
     Read(Reading),
     /// For each index the set that belongs to it.
     Entries(Items<(Angle, Expr)>),
@@ -49,12 +55,12 @@ pub enum SetSide {
 /// What a parameter is declared to be, with a default behind the word `default`.
 #[derive(Drop)]
 pub enum ParSide {
-    Value(Expr),
-    Read(Reading, Option<(Place, Expr)>),
+    Value(Boxed<Expr>),
+    Read(Reading, Option<(Place, Boxed<Expr>)>),
     /// For each index the value that belongs to it.
-    Entries(Items<(Angle, Expr)>, Option<(Place, Expr)>),
-    Table(Table, Option<(Place, Expr)>),
-    Default(Place, Expr),
+    Entries(Items<(Angle, Expr)>, Option<(Place, Boxed<Expr>)>),
+    Table(Table, Option<(Place, Boxed<Expr>)>),
+    Default(Place, Boxed<Expr>),
 }
 
 /// `| "a", "b" |` and rows as `| 1 | 2, 3 |`.
@@ -73,7 +79,7 @@ pub struct Limit {
     pub place: Place,
     /// Whether it is a `>=`.
     pub lower: bool,
-    pub side: Expr,
+    pub side: Boxed<Expr>,
 }
 
 /// `read "file" as "template" skip 1`
@@ -81,8 +87,8 @@ pub struct Limit {
 pub struct Reading {
     /// Of its `as`.
     pub place: Place,
-    pub file: Expr,
-    pub template: Expr,
+    pub file: Boxed<Expr>,
+    pub template: Boxed<Expr>,
     /// `skip`, `use` and `comment` with their operands, in the order of the text.
     pub options: Items<(Place, Word, Expr)>,
 }
@@ -91,7 +97,7 @@ pub struct Reading {
 #[derive(Drop)]
 pub enum Doing {
     Print(Place, Items<Printed>),
-    Check(Place, Expr),
+    Check(Place, Boxed<Expr>),
     /// `forall index : doing`; the flag says `do` in place of `:`.
     Forall(Place, Boxed<Index>, bool, Boxed<Doing>),
 }
@@ -99,6 +105,6 @@ pub enum Doing {
 /// What a `print` prints.
 #[derive(Drop)]
 pub enum Printed {
-    Value(Expr),
+    Value(Boxed<Expr>),
     Tuple(Angle),
 }

@@ -1,5 +1,5 @@
 -- Each form is counted part by part, in the order of the code.
-use Rattle.std.proofs.Common.{Bool, sym, ap}
+use Rattle.std.proofs.Common.{Bool, ap}
 use Rattle.std.proofs.lemmas.List.{take_all}
 use Rattle.zim_fault.specs.declared.faults.Place.{Place}
 use Rattle.zim_fault.specs.declared.tokens.Token.{Token}
@@ -56,7 +56,7 @@ depth_of_body-returns-in-Span t c =
 
 pub depth_of_index-returns : goal.depth_of_index-returns
 depth_of_index-returns t c =
-    given _ _ (c.then.ensures _ _ c.depth_of_angle.ensures (c.then-rest.ensures _ _ c.depth_of_expr.ensures c.depth_of_condition.ensures)) (sym (index-view c.args.index.now))
+    given _ _ (c.then.ensures _ _ c.depth_of_angle.ensures (c.then-rest.ensures _ _ c.depth_of_expr.ensures c.depth_of_condition.ensures)) (simp (c.get.ensures, index-view))
 
 pub depth_of_exprs-loop-tree-preserved : goal.depth_of_exprs-loop-tree-preserved
 depth_of_exprs-loop-tree-preserved t c =

@@ -1,5 +1,0 @@
-use Rattle.std.proofs.Common.{◌≡◌, take}
-use Rattle.zim_tree.proofs.copy_stmt.copy_entries.Given as goal
-
-abbrev pub invariant-loop-tuple : goal.invariant-loop-tuple
-invariant-loop-tuple l = l.made ≡ take l.tuple-index l.trees

@@ -1,5 +1,0 @@
-use Rattle.std.proofs.Common.{◌≡◌, take}
-use Rattle.zim_tree.proofs.copy_stmt.copy_rows.Given as goal
-
-abbrev pub invariant-loop-items : goal.invariant-loop-items
-invariant-loop-items l = l.made ≡ take l.items-index l.trees

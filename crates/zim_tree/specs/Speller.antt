@@ -1,9 +1,0 @@
--- What a speller did: it went on by the spelling of a part.
-use Rattle.std.specs.Prelude.{◌≡◌, ◌++◌, IsOk, OnOk}
-use Rattle.zim_tree.specs.declared.speller.Speller.{Speller}
-use Rattle.zim_tree.specs.Spelling.{Tokens}
-
--- a speller went on by these tokens: if nothing has failed in the end, nothing had failed before, and the list grew by them
-pub record Spells (old new : Speller) (text : Tokens) : Type 0 where
-  pub before : OnOk new.outcome (IsOk old.outcome)
-  pub tokens : OnOk new.outcome (new.tokens ≡ old.tokens ++ text)
