@@ -1,5 +1,6 @@
+use crate::bytes::Bytes;
 use crate::kinds::Kind;
-use crate::lists::{Bytes, Sequence};
+use crate::lists::Sequence;
 
 /// Where something stands in the files of a run.
 #[derive(Clone, Copy, Debug, PartialEq, Eq, Hash)]

@@ -2,6 +2,7 @@
 //! signs, and the small list type that clauses see as a list.
 #![tactic(auto)]
 
+mod bytes;
 mod faults;
 mod kinds;
 mod lists;
@@ -10,9 +11,10 @@ mod signs;
 mod tokens;
 mod words;
 
+pub use bytes::Bytes;
 pub use faults::{Fault, Files, Place};
 pub use kinds::{Kind, number_of_kind, text_of_kind};
-pub use lists::{Bytes, Sequence};
+pub use lists::Sequence;
 pub use memory::{Duplicate, Memory};
 pub use signs::{Sign, sign_text};
 pub use tokens::{Join, Placed, Relation, Token};

@@ -16,9 +16,6 @@ pub struct Sequence<T> {
     items: Vec<T>,
 }
 
-/// A list of bytes: a name, a text, the content of a file.
-pub type Bytes = Sequence<u8>;
-
 impl<T> Model for Sequence<T> {
     ghost use Rattle.std.specs.Prelude.{List};
     ghost use Rattle.std.specs.Coded.{coded_list};
@@ -38,6 +35,14 @@ impl<T> Sequence<T> {
         Sequence {
             items: Vec::new(alloc),
         }
+    }
+
+    /// The empty list, which takes memory for so many members at once.
+    pub fn with_capacity(alloc: Global, count: usize) -> Result<Sequence<T>, Memory>
+        ensures { IfOk result (λ made. made ≡ []) }
+    {
+        let items = Vec::with_capacity(alloc, count)?;
+        Ok(Sequence { items })
     }
 
     /// The members of a vector.

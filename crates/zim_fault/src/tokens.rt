@@ -1,5 +1,5 @@
+use crate::bytes::Bytes;
 use crate::faults::Place;
-use crate::lists::Bytes;
 use crate::memory::{Duplicate, Memory};
 use crate::signs::Sign;
 use crate::words::Word;

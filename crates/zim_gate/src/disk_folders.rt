@@ -1,4 +1,4 @@
-ghost use Rattle.std.specs.Prelude.{◌≡◌, ◌≤◌, length, option_map, IfOk, IsUtf8};
+ghost use Rattle.std.specs.Prelude.{◌≡◌, ◌≤◌, length, option_map, IfOk, IsSome, IsUtf8};
 ghost use Rattle.zim_gate.specs.DiskFolder.{disk_state, new_disk};
 
 use crate::calls::one_more;
@@ -106,12 +106,7 @@ impl<R: Files> Folder for DiskFolder<'_, R> {
     }
 
     fn put(&mut self, piece: &[u8]) -> Result<(), Failed> {
-        let Some(mut begun) = self.begun.take() else {
-            unreachable!()
-        };
-        let answer = begun.file.write_all(piece);
-        self.begun = Some(begun);
-        match answer {
+        match append(&mut self.begun, piece) {
             Ok(()) => Ok(()),
             Err(_) => {
                 self.write_faults = one_more(self.write_faults);
@@ -131,6 +126,17 @@ impl<R: Files> Folder for DiskFolder<'_, R> {
                 Err(Failed)
             }
         }
+    }
+}
+
+/// Appends a piece to the file that is begun.
+fn append<W: Write + Drop>(begun: &mut Option<Begun<W>>, piece: &[u8]) -> io::Result<()>
+    requires { IsSome begun.old }
+    ensures { option_map (λ it. it.name) begun.new ≡ option_map (λ it. it.name) begun.old }
+{
+    match begun {
+        None => unreachable!(),
+        Some(begun) => begun.file.write_all(piece),
     }
 }
 

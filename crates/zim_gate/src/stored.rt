@@ -22,7 +22,7 @@ pub(crate) fn store(alloc: Global, files: Vec<(Bytes, Bytes)>) -> Result<Vec<Sto
     for (name, bytes) in files {
         made.push(Stored {
             name,
-            content: Limited::full(bytes.into_vec()),
+            content: Limited::full(bytes.into_vec()?),
         })?;
     }
     Ok(made)
