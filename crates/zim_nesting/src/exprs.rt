@@ -29,7 +29,7 @@ pub(crate) fn depth_of_expr(tree: &Expr) -> Counts
                 .inside()
         }
         Expr::Paren(_, inner) => depth_of_expr(inner.get()).inside(),
-        Expr::Braces(_, body) => depth_of_body(body).inside(),
+        Expr::Braces(_, body) => depth_of_body(body.get()).inside(),
         Expr::If(_, _, test, branch, otherwise) => {
             let branches = depth_of_expr(branch.get()).then(depth_of_given(otherwise));
             depth_of_expr(test.get()).then(branches).inside()

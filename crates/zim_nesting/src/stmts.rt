@@ -17,7 +17,7 @@ use zim_tree::{
 pub fn nesting(statement: &Stmt) -> u64
     ensures { result ≡ min u64.MAX (spec.nesting statement.now) }
 {
-    depth_of_shape(&statement.shape).deepest
+    depth_of_shape(statement.shape.get()).deepest
 }
 
 /// How deep a statement of this shape nests.
@@ -32,9 +32,9 @@ fn depth_of_shape(shape: &Shape) -> Counts
             let rest = depth_of_limits(limits.as_slice()).then(given);
             depth_of_brackets(brackets).then(rest)
         }
-        Shape::Goal(_, objective) => depth_of_expr(objective),
-        Shape::Subto(constraint) => depth_of_expr(constraint),
-        Shape::Define(_, _, body) => Counts::plain().inside().then(depth_of_expr(body)),
+        Shape::Goal(_, objective) => depth_of_expr(objective.get()),
+        Shape::Subto(constraint) => depth_of_expr(constraint.get()),
+        Shape::Define(_, _, body) => Counts::plain().inside().then(depth_of_expr(body.get())),
         Shape::Do(doing) => depth_of_doing(doing),
     }
 }
@@ -75,7 +75,7 @@ fn depth_of_set_side(side: &SetSide) -> Counts
     ensures { result ≡ counted (spec.set_side_depth side.now) }
 {
     match side {
-        SetSide::Value(value) => depth_of_expr(value),
+        SetSide::Value(value) => depth_of_expr(value.get()),
         SetSide::Read(reading) => depth_of_reading(reading).inside(),
         SetSide::Entries(entries) => depth_of_entries(entries.as_slice()),
     }
@@ -86,13 +86,13 @@ fn depth_of_par_side(side: &ParSide) -> Counts
     ensures { result ≡ counted (spec.par_side_depth side.now) }
 {
     match side {
-        ParSide::Value(value) => depth_of_expr(value),
+        ParSide::Value(value) => depth_of_expr(value.get()),
         ParSide::Read(reading, default) => depth_of_reading(reading).then(depth_of_given(default)),
         ParSide::Entries(entries, default) => {
             depth_of_entries(entries.as_slice()).then(depth_of_given(default))
         }
         ParSide::Table(table, default) => depth_of_table(table).then(depth_of_given(default)),
-        ParSide::Default(_, default) => depth_of_expr(default),
+        ParSide::Default(_, default) => depth_of_expr(default.get()),
     }
 }
 
@@ -145,7 +145,7 @@ fn depth_of_limits(limits: &[Limit]) -> Counts
 {
     let mut counts = Counts::plain();
     for limit in limits {
-        counts = counts.then(depth_of_expr(&limit.side));
+        counts = counts.then(depth_of_expr(limit.side.get()));
     }
     counts
 }
@@ -176,7 +176,7 @@ fn depth_of_printed(item: &Printed) -> Counts
     ensures { result ≡ counted (spec.printed_depth item.now) }
 {
     match item {
-        Printed::Value(value) => depth_of_expr(value),
+        Printed::Value(value) => depth_of_expr(value.get()),
         Printed::Tuple(tuple) => depth_of_angle(tuple),
     }
 }
@@ -198,7 +198,7 @@ fn depth_of_doing(doing: &Doing) -> Counts
 {
     match doing {
         Doing::Print(_, items) => depth_of_print(items.as_slice()),
-        Doing::Check(_, test) => depth_of_expr(test),
+        Doing::Check(_, test) => depth_of_expr(test.get()),
         Doing::Forall(_, index, _, body) => {
             let rest = depth_of_index(index.get()).then(depth_of_doing(body.get()));
             Counts::a_loop().then(rest)

@@ -267,10 +267,10 @@ fn shape<'a>(alloc: Global, head: Head<'a>, shape: &'a Shape) -> Result<Statemen
             }
         }
         Shape::Goal(maximize, objective) => {
-            let sum = sum(alloc, objective)?;
+            let sum = sum(alloc, objective.get())?;
             Ok(Statement::Objective(*maximize, head, sum))
         }
-        Shape::Subto(condition) => constraint(alloc, head, condition),
+        Shape::Subto(condition) => constraint(alloc, head, condition.get()),
         _ => Err(Stop::Outside),
     }
 }
@@ -284,5 +284,5 @@ pub fn statement(alloc: Global, tree: &Stmt) -> Result<Statement<'_>, Stop>
         at: tree.at,
         name: &tree.name,
     };
-    shape(alloc, head, &tree.shape)
+    shape(alloc, head, tree.shape.get())
 }

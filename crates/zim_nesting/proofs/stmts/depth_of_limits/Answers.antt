@@ -5,5 +5,5 @@ use Rattle.zim_nesting.proofs.stmts.depth_of_limits.Goals as goal
 
 pub loop-limit-preserved : goal.loop-limit-preserved
 loop-limit-preserved c =
-    given _ _ (c.then-counts.ensures _ _ c.loop-limit.invariant c.depth_of_expr.ensures)
+    given _ _ (c.then-counts.ensures _ _ c.loop-limit.invariant (simp c.get.ensures at c.depth_of_expr.ensures))
     (followed-next limit_depth plain c.args.limits.now c.loop-limit.limit-index c.limit-item.result c.loop-limit-test.true c.limit-item.is)

@@ -16,4 +16,4 @@ returns-in-Var c =
 
 pub returns-in-Define : goal.returns-in-Define
 returns-in-Define c =
-    given _ _ (c.then-in-Define.ensures (inside plain) _ (c.inside.ensures plain c.plain.ensures) c.depth_of_expr-in-Define.ensures) (simp c.in-Define.is)
+    given _ _ (c.then-in-Define.ensures (inside plain) _ (c.inside.ensures plain c.plain.ensures) c.depth_of_expr-in-Define.ensures) (simp (c.get-in-Define.ensures, c.in-Define.is))
