@@ -1,5 +1,5 @@
 -- How each word is spelled.
-use Rattle.std.specs.Prelude.{ℕ, List, codes}
+use Rattle.std.specs.Prelude.{ℕ, Bool, nat_le, ◌&&◌, List, codes}
 use Rattle.zim_fault.specs.declared.words.Word.{Word}
 use Rattle.zim_fault.specs.declared.words.Word.TheVariants.{WSet, WParam, WVar, WMinimize, WMaximize, WSubto, WDefnumb, WDefstrg, WDefbool, WDefset, WDo, WPrint, WCheck, WForall, WSum, WProd, WMin, WMax, WArgmin, WArgmax, WIf, WThen, WElse, WEnd, WVif, WVabs, WAnd, WOr, WXor, WNot, WIn, WWith, WTo, WBy, WUnion, WInter, WCross, WWithout, WSymdiff, WMod, WDiv, WRead, WAs, WSkip, WUse, WComment, WDefault, WBinary, WInteger, WReal, WInfinity, WPriority, WStartval, WTrue, WFalse, WProj, WPowerset, WSubsets, WIndexset, WAbs, WSgn, WFloor, WCeil, WRound, WCard, WOrd, WLength, WSubstr, WInclude, WRandom, WSqrt, WLog, WLn, WExp, WMatch, WSos, WImplicit, WExists, WScale, WSeparate, WCheckonly, WIndicator}
 
@@ -87,3 +87,7 @@ spelling_of_word WScale = codes "scale"
 spelling_of_word WSeparate = codes "separate"
 spelling_of_word WCheckonly = codes "checkonly"
 spelling_of_word WIndicator = codes "indicator"
+
+-- `a` to `z`
+abbrev pub is_lowercase : ℕ → Bool
+is_lowercase b = nat_le 97 b && nat_le b 122

@@ -1,6 +1,8 @@
 ghost use Rattle.std.specs.Prelude.{◌≡◌, IfSome, find, nat_eq};
 ghost use Rattle.std.specs.Cmp.Lexicographic.{pointwise};
+ghost use Rattle.std.specs.List.{list_all};
 ghost use Rattle.zim_fault.specs.Words.{spelling_of_word};
+ghost use Rattle.zim_fault.specs.Words as spelled;
 
 /// A word of the language. None of them can be a name.
 ///
@@ -274,10 +276,26 @@ fn first_spelled(text: &[u8]) -> Option<Word>
     WORDS.iter().copied().find(|word| word_text(*word) == text)
 }
 
+fn is_lowercase(byte: u8) -> bool
+    ensures { result ≡ spelled.is_lowercase byte }
+{
+    b'a' <= byte && byte <= b'z'
+}
+
+/// Whether all bytes are lowercase letters, as those of each word are.
+fn are_lowercase(text: &[u8]) -> bool
+    ensures { result ≡ list_all spelled.is_lowercase text.now }
+{
+    text.iter().all(|byte| is_lowercase(*byte))
+}
+
 /// The word that is spelled so, or `None` where no word is.
 pub fn word_of(text: &[u8]) -> Option<Word>
     ensures spelled { IfSome result (λ word. spelling_of_word word ≡ text.now) }
     ensures every { (word : Word) → spelling_of_word word ≡ text.now → result ≡ Some word }
 {
+    if !are_lowercase(text) {
+        return None;
+    }
     first_spelled(text)
 }
