@@ -32,177 +32,177 @@ use Rattle.zim_typed.specs.Terms.{may_constrain, may_enclose}
 
 mutual
   -- a constant that suits a scope and names
-  pub data SuitsConst : Scope → Names → Const → Type 0 where
-    suits_number : {scope : Scope} {names : Names} (p : Place) {digits : List ℕ} → IsTrue (is_number digits) → SuitsConst scope names (const.Number p digits)
-    suits_text : {scope : Scope} {names : Names} (p : Place) (text : List ℕ) (double : Bool) → SuitsConst scope names (const.Text p text double)
-    suits_truth : {scope : Scope} {names : Names} (p : Place) (truth : Bool) → SuitsConst scope names (const.Truth p truth)
-    suits_local : {scope : Scope} {names : Names} (p : Place) (name : Text) → is_local names name ≡ true → SuitsConst scope names (const.Name p name resolved.Local)
-    suits_name : {scope : Scope} {names : Names} (p : Place) (name : Text) {r : Resolved} → bare_declared (declared scope name) ≡ Stands r →
+  pub data SuitsConst (scope : Scope) : Names → Const → Type 0 where
+    suits_number : {names : Names} (p : Place) {digits : List ℕ} → IsTrue (is_number digits) → SuitsConst scope names (const.Number p digits)
+    suits_text : {names : Names} (p : Place) (text : List ℕ) (double : Bool) → SuitsConst scope names (const.Text p text double)
+    suits_truth : {names : Names} (p : Place) (truth : Bool) → SuitsConst scope names (const.Truth p truth)
+    suits_local : {names : Names} (p : Place) (name : Text) → is_local names name ≡ true → SuitsConst scope names (const.Name p name resolved.Local)
+    suits_name : {names : Names} (p : Place) (name : Text) {r : Resolved} → bare_declared (declared scope name) ≡ Stands r →
         SuitsConst scope names (const.Name p name r)
-    suits_item : {scope : Scope} {names : Names} (p : Place) (name : Text) {r : Resolved} {index : List Const} → indexed_declared (declared scope name) ≡ Stands r →
+    suits_item : {names : Names} (p : Place) (name : Text) {r : Resolved} {index : List Const} → indexed_declared (declared scope name) ≡ Stands r →
         ConstsSuit scope names index → SuitsConst scope names (const.Item p name index r)
-    suits_call : {scope : Scope} {names : Names} (p : Place) (name : Text) {r : Resolved} {given : List Const} → called_declared (length given) (declared scope name) ≡ Stands r →
+    suits_call : {names : Names} (p : Place) (name : Text) {r : Resolved} {given : List Const} → called_declared (length given) (declared scope name) ≡ Stands r →
         ConstsSuit scope names given → SuitsConst scope names (const.Call p name given r)
-    suits_function : {scope : Scope} {names : Names} (p : Place) {word : Word} {given : List Const} → is_value_function word ≡ true → takes word (length given) ≡ true →
+    suits_function : {names : Names} (p : Place) {word : Word} {given : List Const} → is_value_function word ≡ true → takes word (length given) ≡ true →
         ConstsSuit scope names given → SuitsConst scope names (const.Func p word given)
-    suits_indexset : {scope : Scope} {names : Names} (p q : Place) (name : Text) → is_indexed_set (declared scope name) ≡ true →
+    suits_indexset : {names : Names} (p q : Place) (name : Text) → is_indexed_set (declared scope name) ≡ true →
         SuitsConst scope names (const.Func p WIndexset (const.Name q name resolved.Set ∷ []))
-    suits_projection : {scope : Scope} {names : Names} (p : Place) {set : Const} {positions : TAngle} → SuitsConst scope names set → SuitsTuple scope names positions →
+    suits_projection : {names : Names} (p : Place) {set : Const} {positions : TAngle} → SuitsConst scope names set → SuitsTuple scope names positions →
         SuitsConst scope names (const.Proj p set positions)
-    suits_parentheses : {scope : Scope} {names : Names} (p : Place) {inner : Const} → SuitsConst scope names inner → SuitsConst scope names (const.Paren p inner)
-    suits_braces : {scope : Scope} {names : Names} (p : Place) {inside : TBody} → SuitsBody scope names inside → SuitsConst scope names (const.Braces p inside)
-    suits_if : {scope : Scope} {names : Names} (p : Place) {test branch otherwise : Const} → SuitsConst scope names test → SuitsConst scope names branch →
+    suits_parentheses : {names : Names} (p : Place) {inner : Const} → SuitsConst scope names inner → SuitsConst scope names (const.Paren p inner)
+    suits_braces : {names : Names} (p : Place) {inside : TBody} → SuitsBody scope names inside → SuitsConst scope names (const.Braces p inside)
+    suits_if : {names : Names} (p : Place) {test branch otherwise : Const} → SuitsConst scope names test → SuitsConst scope names branch →
         SuitsConst scope names otherwise → SuitsConst scope names (const.If p test branch otherwise)
-    suits_factorial : {scope : Scope} {names : Names} (marks : List Place) {operand : Const} → SuitsConst scope names operand → SuitsConst scope names (const.Factorial operand marks)
-    suits_power : {scope : Scope} {names : Names} (p : Place) (sign : Sign) (signed : Option (Place × Bool)) {base exponent : Const} →
+    suits_factorial : {names : Names} (marks : List Place) {operand : Const} → SuitsConst scope names operand → SuitsConst scope names (const.Factorial operand marks)
+    suits_power : {names : Names} (p : Place) (sign : Sign) (signed : Option (Place × Bool)) {base exponent : Const} →
         SuitsConst scope names base → SuitsConst scope names exponent → SuitsConst scope names (const.Power p sign base signed exponent)
-    suits_signed : {scope : Scope} {names : Names} (p : Place) (minus : Bool) {operand : Const} → SuitsConst scope names operand → SuitsConst scope names (const.Signed p minus operand)
-    suits_big : {scope : Scope} {names inner : Names} (p : Place) (word : Word) (with_do : Bool) {index : Loop} {operand : Const} → SuitsLoop scope names index inner →
+    suits_signed : {names : Names} (p : Place) (minus : Bool) {operand : Const} → SuitsConst scope names operand → SuitsConst scope names (const.Signed p minus operand)
+    suits_big : {names inner : Names} (p : Place) (word : Word) (with_do : Bool) {index : Loop} {operand : Const} → SuitsLoop scope names index inner →
         SuitsConst scope inner operand → SuitsConst scope names (const.Big p word index with_do operand)
-    suits_product : {scope : Scope} {names : Names} {first : Const} {others : List (Place × Token × Const)} → SuitsConst scope names first → OperandsSuit scope names others →
+    suits_product : {names : Names} {first : Const} {others : List (Place × Token × Const)} → SuitsConst scope names first → OperandsSuit scope names others →
         SuitsConst scope names (const.Times first others)
-    suits_sum : {scope : Scope} {names : Names} {first : Const} {others : List (Place × Token × Const)} → SuitsConst scope names first → OperandsSuit scope names others →
+    suits_sum : {names : Names} {first : Const} {others : List (Place × Token × Const)} → SuitsConst scope names first → OperandsSuit scope names others →
         SuitsConst scope names (const.Plus first others)
-    suits_comparison : {scope : Scope} {names : Names} (p : Place) (relation : Relation) {left right : Const} → SuitsConst scope names left → SuitsConst scope names right →
+    suits_comparison : {names : Names} (p : Place) (relation : Relation) {left right : Const} → SuitsConst scope names left → SuitsConst scope names right →
         SuitsConst scope names (const.Compare p relation left right)
-    suits_member : {scope : Scope} {names : Names} (p : Place) {tuple : TAngle} {set : Const} → SuitsTuple scope names tuple → SuitsConst scope names set →
+    suits_member : {names : Names} (p : Place) {tuple : TAngle} {set : Const} → SuitsTuple scope names tuple → SuitsConst scope names set →
         SuitsConst scope names (const.Member p tuple set)
-    suits_not : {scope : Scope} {names : Names} (p : Place) {operand : Const} → SuitsConst scope names operand → SuitsConst scope names (const.Not p operand)
-    suits_and : {scope : Scope} {names : Names} {first : Const} {others : List (Place × Const)} → SuitsConst scope names first → ConjunctsSuit scope names others →
+    suits_not : {names : Names} (p : Place) {operand : Const} → SuitsConst scope names operand → SuitsConst scope names (const.Not p operand)
+    suits_and : {names : Names} {first : Const} {others : List (Place × Const)} → SuitsConst scope names first → ConjunctsSuit scope names others →
         SuitsConst scope names (const.And first others)
-    suits_or : {scope : Scope} {names : Names} {first : Const} {others : List (Place × Bool × Const)} → SuitsConst scope names first → DisjunctsSuit scope names others →
+    suits_or : {names : Names} {first : Const} {others : List (Place × Bool × Const)} → SuitsConst scope names first → DisjunctsSuit scope names others →
         SuitsConst scope names (const.Or first others)
 
   -- constants that suit
-  pub data ConstsSuit : Scope → Names → List Const → Type 0 where
-    suits_none : {scope : Scope} {names : Names} → ConstsSuit scope names []
-    suits_one : {scope : Scope} {names : Names} {c : Const} {cs : List Const} → SuitsConst scope names c → ConstsSuit scope names cs → ConstsSuit scope names (c ∷ cs)
+  pub data ConstsSuit (scope : Scope) : Names → List Const → Type 0 where
+    suits_none : {names : Names} → ConstsSuit scope names []
+    suits_one : {names : Names} {c : Const} {cs : List Const} → SuitsConst scope names c → ConstsSuit scope names cs → ConstsSuit scope names (c ∷ cs)
 
   -- operands behind operators that suit
-  pub data OperandsSuit : Scope → Names → List (Place × Token × Const) → Type 0 where
-    suits_no_operand : {scope : Scope} {names : Names} → OperandsSuit scope names []
-    suits_one_operand : {scope : Scope} {names : Names} (p : Place) (token : Token) {c : Const} {others : List (Place × Token × Const)} →
+  pub data OperandsSuit (scope : Scope) : Names → List (Place × Token × Const) → Type 0 where
+    suits_no_operand : {names : Names} → OperandsSuit scope names []
+    suits_one_operand : {names : Names} (p : Place) (token : Token) {c : Const} {others : List (Place × Token × Const)} →
         SuitsConst scope names c → OperandsSuit scope names others → OperandsSuit scope names ((p, token, c) ∷ others)
 
   -- operands behind `and` that suit
-  pub data ConjunctsSuit : Scope → Names → List (Place × Const) → Type 0 where
-    suits_no_conjunct : {scope : Scope} {names : Names} → ConjunctsSuit scope names []
-    suits_one_conjunct : {scope : Scope} {names : Names} (p : Place) {c : Const} {others : List (Place × Const)} →
+  pub data ConjunctsSuit (scope : Scope) : Names → List (Place × Const) → Type 0 where
+    suits_no_conjunct : {names : Names} → ConjunctsSuit scope names []
+    suits_one_conjunct : {names : Names} (p : Place) {c : Const} {others : List (Place × Const)} →
         SuitsConst scope names c → ConjunctsSuit scope names others → ConjunctsSuit scope names ((p, c) ∷ others)
 
   -- operands behind `or` and `xor` that suit
-  pub data DisjunctsSuit : Scope → Names → List (Place × Bool × Const) → Type 0 where
-    suits_no_disjunct : {scope : Scope} {names : Names} → DisjunctsSuit scope names []
-    suits_one_disjunct : {scope : Scope} {names : Names} (p : Place) (xor : Bool) {c : Const} {others : List (Place × Bool × Const)} →
+  pub data DisjunctsSuit (scope : Scope) : Names → List (Place × Bool × Const) → Type 0 where
+    suits_no_disjunct : {names : Names} → DisjunctsSuit scope names []
+    suits_one_disjunct : {names : Names} (p : Place) (xor : Bool) {c : Const} {others : List (Place × Bool × Const)} →
         SuitsConst scope names c → DisjunctsSuit scope names others → DisjunctsSuit scope names ((p, xor, c) ∷ others)
 
   -- a tuple that suits
-  pub data SuitsTuple : Scope → Names → TAngle → Type 0 where
-    suits_tuple : {scope : Scope} {names : Names} (p : Place) {items : List Const} → ConstsSuit scope names items → SuitsTuple scope names (angle_of p items)
+  pub data SuitsTuple (scope : Scope) : Names → TAngle → Type 0 where
+    suits_tuple : {names : Names} (p : Place) {items : List Const} → ConstsSuit scope names items → SuitsTuple scope names (angle_of p items)
 
   -- tuples that suit
-  pub data TuplesSuit : Scope → Names → List TAngle → Type 0 where
-    suits_no_tuple : {scope : Scope} {names : Names} → TuplesSuit scope names []
-    suits_one_tuple : {scope : Scope} {names : Names} {tuple : TAngle} {tuples : List TAngle} → SuitsTuple scope names tuple → TuplesSuit scope names tuples →
+  pub data TuplesSuit (scope : Scope) : Names → List TAngle → Type 0 where
+    suits_no_tuple : {names : Names} → TuplesSuit scope names []
+    suits_one_tuple : {names : Names} {tuple : TAngle} {tuples : List TAngle} → SuitsTuple scope names tuple → TuplesSuit scope names tuples →
         TuplesSuit scope names (tuple ∷ tuples)
 
   -- the components of an index that suit, where it is known which names those before them bind; all bind these names
-  pub data SlotsSuit : Scope → Names → List (Option Text) → List LoopSlot → Names → Type 0 where
-    suits_no_slot : {scope : Scope} {names : Names} {before : List (Option Text)} → SlotsSuit scope names before [] (filter_map (λ x. x) before)
-    suits_free : {scope : Scope} {names bound : Names} {before : List (Option Text)} (name : Text) {slots : List LoopSlot} →
+  pub data SlotsSuit (scope : Scope) : Names → List (Option Text) → List LoopSlot → Names → Type 0 where
+    suits_no_slot : {names : Names} {before : List (Option Text)} → SlotsSuit scope names before [] (filter_map (λ x. x) before)
+    suits_free : {names bound : Names} {before : List (Option Text)} (name : Text) {slots : List LoopSlot} →
         SlotsSuit scope names (before ++ Some name ∷ []) slots bound → SlotsSuit scope names before (slot.Free name ∷ slots) bound
-    suits_again : {scope : Scope} {names bound : Names} {before : List (Option Text)} {i : ℕ} (name : Text) {slots : List LoopSlot} →
+    suits_again : {names bound : Names} {before : List (Option Text)} {i : ℕ} (name : Text) {slots : List LoopSlot} →
         get_or before i None ≡ Some name → SlotsSuit scope names (before ++ None ∷ []) slots bound → SlotsSuit scope names before (slot.Again i ∷ slots) bound
-    suits_fixed : {scope : Scope} {names bound : Names} {before : List (Option Text)} {c : Const} {slots : List LoopSlot} →
+    suits_fixed : {names bound : Names} {before : List (Option Text)} {c : Const} {slots : List LoopSlot} →
         SuitsConst scope names c → SlotsSuit scope names (before ++ None ∷ []) slots bound → SlotsSuit scope names before (slot.Fixed c ∷ slots) bound
 
   -- an index that suits, and the names that are bound behind it
-  pub data SuitsLoop : Scope → Names → Loop → Names → Type 0 where
-    suits_loop : {scope : Scope} {names bound : Names} (p : Place) {slots : List LoopSlot} {set : Const} → SlotsSuit scope names [] slots bound →
+  pub data SuitsLoop (scope : Scope) : Names → Loop → Names → Type 0 where
+    suits_loop : {names bound : Names} (p : Place) {slots : List LoopSlot} {set : Const} → SlotsSuit scope names [] slots bound →
         SuitsConst scope names set → SuitsLoop scope names (loop_of p slots set None) (bound ++ names)
-    suits_loop_with : {scope : Scope} {names bound : Names} (p : Place) {slots : List LoopSlot} {set cond : Const} → SlotsSuit scope names [] slots bound →
+    suits_loop_with : {names bound : Names} (p : Place) {slots : List LoopSlot} {set cond : Const} → SlotsSuit scope names [] slots bound →
         SuitsConst scope names set → SuitsConst scope (bound ++ names) cond → SuitsLoop scope names (loop_of p slots set (Some cond)) (bound ++ names)
 
   -- what stands in braces and suits
-  pub data SuitsBody : Scope → Names → TBody → Type 0 where
-    suits_empty : {scope : Scope} {names : Names} → SuitsBody scope names body.Empty
-    suits_members : {scope : Scope} {names : Names} {members : List Const} → ConstsSuit scope names members → SuitsBody scope names (body.Members members)
-    suits_tuples : {scope : Scope} {names : Names} {tuples : List TAngle} → TuplesSuit scope names tuples → SuitsBody scope names (body.Tuples tuples)
-    suits_choices : {scope : Scope} {names inner : Names} {index : Loop} → SuitsLoop scope names index inner → SuitsBody scope names (body.Those index)
-    suits_span : {scope : Scope} {names : Names} (with_to : Bool) {from to : Const} → SuitsConst scope names from → SuitsConst scope names to →
+  pub data SuitsBody (scope : Scope) : Names → TBody → Type 0 where
+    suits_empty : {names : Names} → SuitsBody scope names body.Empty
+    suits_members : {names : Names} {members : List Const} → ConstsSuit scope names members → SuitsBody scope names (body.Members members)
+    suits_tuples : {names : Names} {tuples : List TAngle} → TuplesSuit scope names tuples → SuitsBody scope names (body.Tuples tuples)
+    suits_choices : {names inner : Names} {index : Loop} → SuitsLoop scope names index inner → SuitsBody scope names (body.Those index)
+    suits_span : {names : Names} (with_to : Bool) {from to : Const} → SuitsConst scope names from → SuitsConst scope names to →
         SuitsBody scope names (body.Span from with_to to None)
-    suits_span_by : {scope : Scope} {names : Names} (with_to : Bool) {from to by : Const} → SuitsConst scope names from → SuitsConst scope names to → SuitsConst scope names by →
+    suits_span_by : {names : Names} (with_to : Bool) {from to by : Const} → SuitsConst scope names from → SuitsConst scope names to → SuitsConst scope names by →
         SuitsBody scope names (body.Span from with_to to (Some by))
 
 mutual
   -- a term that suits a scope and names
-  pub data SuitsTerm : Scope → Names → Term → Type 0 where
-    suits_known_term : {scope : Scope} {names : Names} {c : Const} → SuitsConst scope names c → SuitsTerm scope names (term.Known c)
-    suits_variable : {scope : Scope} {names : Names} (p : Place) (name : Text) → bare_declared (declared scope name) ≡ Varies → SuitsTerm scope names (term.Column p name [])
-    suits_variable_at : {scope : Scope} {names : Names} (p : Place) (name : Text) {first : Const} {others : List Const} → indexed_declared (declared scope name) ≡ Varies →
+  pub data SuitsTerm (scope : Scope) : Names → Term → Type 0 where
+    suits_known_term : {names : Names} {c : Const} → SuitsConst scope names c → SuitsTerm scope names (term.Known c)
+    suits_variable : {names : Names} (p : Place) (name : Text) → bare_declared (declared scope name) ≡ Varies → SuitsTerm scope names (term.Column p name [])
+    suits_variable_at : {names : Names} (p : Place) (name : Text) {first : Const} {others : List Const} → indexed_declared (declared scope name) ≡ Varies →
         ConstsSuit scope names (first ∷ others) → SuitsTerm scope names (term.Column p name (first ∷ others))
-    suits_term_sum : {scope : Scope} {names : Names} {first : Term} {others : List (Place × Bool × Term)} → SuitsTerm scope names first → TermsSuit scope names others →
+    suits_term_sum : {names : Names} {first : Term} {others : List (Place × Bool × Term)} → SuitsTerm scope names first → TermsSuit scope names others →
         SuitsTerm scope names (term.Sum first others)
-    suits_term_product : {scope : Scope} {names : Names} {inner : Term} {factors : List (Place × Bool × Const)} → SuitsTerm scope names inner →
+    suits_term_product : {names : Names} {inner : Term} {factors : List (Place × Bool × Const)} → SuitsTerm scope names inner →
         FactorsSuit scope names factors → SuitsTerm scope names (term.Product None inner factors)
-    suits_term_multiple : {scope : Scope} {names : Names} (p : Place) {c : Const} {inner : Term} {factors : List (Place × Bool × Const)} → SuitsConst scope names c →
+    suits_term_multiple : {names : Names} (p : Place) {c : Const} {inner : Term} {factors : List (Place × Bool × Const)} → SuitsConst scope names c →
         SuitsTerm scope names inner → FactorsSuit scope names factors → SuitsTerm scope names (term.Product (Some (c, p)) inner factors)
-    suits_minus : {scope : Scope} {names : Names} (p : Place) {inner : Term} → SuitsTerm scope names inner → SuitsTerm scope names (term.Minus p inner)
-    suits_sum_over : {scope : Scope} {names inner : Names} (p : Place) {index : Loop} {summand : Term} → SuitsLoop scope names index inner → SuitsTerm scope inner summand →
+    suits_minus : {names : Names} (p : Place) {inner : Term} → SuitsTerm scope names inner → SuitsTerm scope names (term.Minus p inner)
+    suits_sum_over : {names inner : Names} (p : Place) {index : Loop} {summand : Term} → SuitsLoop scope names index inner → SuitsTerm scope inner summand →
         SuitsTerm scope names (term.SumOver p index summand)
-    suits_term_if : {scope : Scope} {names : Names} (p : Place) {test : Const} {branch otherwise : Term} → SuitsConst scope names test → SuitsTerm scope names branch →
+    suits_term_if : {names : Names} (p : Place) {test : Const} {branch otherwise : Term} → SuitsConst scope names test → SuitsTerm scope names branch →
         SuitsTerm scope names otherwise → SuitsTerm scope names (term.If p test branch otherwise)
-    suits_absolute : {scope : Scope} {names : Names} (p : Place) {inner : Term} → SuitsTerm scope names inner → SuitsTerm scope names (term.Abs p inner)
+    suits_absolute : {names : Names} (p : Place) {inner : Term} → SuitsTerm scope names inner → SuitsTerm scope names (term.Abs p inner)
 
   -- terms that are added or taken off, and suit
-  pub data TermsSuit : Scope → Names → List (Place × Bool × Term) → Type 0 where
-    suits_no_term : {scope : Scope} {names : Names} → TermsSuit scope names []
-    suits_one_term : {scope : Scope} {names : Names} (p : Place) (minus : Bool) {t : Term} {others : List (Place × Bool × Term)} →
+  pub data TermsSuit (scope : Scope) : Names → List (Place × Bool × Term) → Type 0 where
+    suits_no_term : {names : Names} → TermsSuit scope names []
+    suits_one_term : {names : Names} (p : Place) (minus : Bool) {t : Term} {others : List (Place × Bool × Term)} →
         SuitsTerm scope names t → TermsSuit scope names others → TermsSuit scope names ((p, minus, t) ∷ others)
 
   -- factors and divisors that suit
-  pub data FactorsSuit : Scope → Names → List (Place × Bool × Const) → Type 0 where
-    suits_no_factor : {scope : Scope} {names : Names} → FactorsSuit scope names []
-    suits_one_factor : {scope : Scope} {names : Names} (p : Place) (divides : Bool) {c : Const} {others : List (Place × Bool × Const)} →
+  pub data FactorsSuit (scope : Scope) : Names → List (Place × Bool × Const) → Type 0 where
+    suits_no_factor : {names : Names} → FactorsSuit scope names []
+    suits_one_factor : {names : Names} (p : Place) (divides : Bool) {c : Const} {others : List (Place × Bool × Const)} →
         SuitsConst scope names c → FactorsSuit scope names others → FactorsSuit scope names ((p, divides, c) ∷ others)
 
 mutual
   -- a condition that suits a scope and names
-  pub data SuitsCond : Scope → Names → Cond → Type 0 where
-    suits_known_condition : {scope : Scope} {names : Names} {c : Const} → SuitsConst scope names c → SuitsCond scope names (cond.Known c)
-    suits_compared : {scope : Scope} {names : Names} (p : Place) (relation : Relation) {t u : Term} → SuitsTerm scope names t → SuitsTerm scope names u →
+  pub data SuitsCond (scope : Scope) : Names → Cond → Type 0 where
+    suits_known_condition : {names : Names} {c : Const} → SuitsConst scope names c → SuitsCond scope names (cond.Known c)
+    suits_compared : {names : Names} (p : Place) (relation : Relation) {t u : Term} → SuitsTerm scope names t → SuitsTerm scope names u →
         SuitsCond scope names (cond.Compare p relation t u)
-    suits_chain : {scope : Scope} {names : Names} {first : Cond} {others : List (Place × Join × Cond)} → SuitsCond scope names first → JoinedSuit scope names others →
+    suits_chain : {names : Names} {first : Cond} {others : List (Place × Join × Cond)} → SuitsCond scope names first → JoinedSuit scope names others →
         SuitsCond scope names (cond.Chain first others)
-    suits_negated : {scope : Scope} {names : Names} (p : Place) {c : Cond} → SuitsCond scope names c → SuitsCond scope names (cond.Not p c)
+    suits_negated : {names : Names} (p : Place) {c : Cond} → SuitsCond scope names c → SuitsCond scope names (cond.Not p c)
 
   -- conditions that are joined, and suit
-  pub data JoinedSuit : Scope → Names → List (Place × Join × Cond) → Type 0 where
-    suits_none_joined : {scope : Scope} {names : Names} → JoinedSuit scope names []
-    suits_one_joined : {scope : Scope} {names : Names} (p : Place) (how : Join) {c : Cond} {others : List (Place × Join × Cond)} →
+  pub data JoinedSuit (scope : Scope) : Names → List (Place × Join × Cond) → Type 0 where
+    suits_none_joined : {names : Names} → JoinedSuit scope names []
+    suits_one_joined : {names : Names} (p : Place) (how : Join) {c : Cond} {others : List (Place × Join × Cond)} →
         SuitsCond scope names c → JoinedSuit scope names others → JoinedSuit scope names ((p, how, c) ∷ others)
 
 mutual
   -- a constraint that suits a scope and names: two terms are compared by `<=`, `>=` or `==`, and a term lies between numbers by `<=` or `>=`
-  pub data SuitsCon : Scope → Names → Con → Type 0 where
-    suits_constraint : {scope : Scope} {names : Names} (p : Place) {relation : Relation} {t u : Term} → may_constrain relation ≡ true →
+  pub data SuitsCon (scope : Scope) : Names → Con → Type 0 where
+    suits_constraint : {names : Names} (p : Place) {relation : Relation} {t u : Term} → may_constrain relation ≡ true →
         SuitsTerm scope names t → SuitsTerm scope names u → SuitsCon scope names (con.Compare p relation t u)
-    suits_range : {scope : Scope} {names : Names} (p : Place) {relation : Relation} {low high : Const} {t : Term} → may_enclose relation ≡ true →
+    suits_range : {names : Names} (p : Place) {relation : Relation} {low high : Const} {t : Term} → may_enclose relation ≡ true →
         SuitsConst scope names low → SuitsTerm scope names t → SuitsConst scope names high → SuitsCon scope names (con.Range p relation low t high)
-    suits_all : {scope : Scope} {names : Names} {parts : List Con} → ConsSuit scope names parts → SuitsCon scope names (con.And parts)
-    suits_forall : {scope : Scope} {names inner : Names} (p : Place) {index : Loop} {inside : Con} → SuitsLoop scope names index inner → SuitsCon scope inner inside →
+    suits_all : {names : Names} {parts : List Con} → ConsSuit scope names parts → SuitsCon scope names (con.And parts)
+    suits_forall : {names inner : Names} (p : Place) {index : Loop} {inside : Con} → SuitsLoop scope names index inner → SuitsCon scope inner inside →
         SuitsCon scope names (con.Forall p index inside)
-    suits_con_if : {scope : Scope} {names : Names} (p : Place) {test : Const} {branch : Con} {otherwise : Option Con} → SuitsConst scope names test →
+    suits_con_if : {names : Names} (p : Place) {test : Const} {branch : Con} {otherwise : Option Con} → SuitsConst scope names test →
         SuitsCon scope names branch → SuitsOtherwise scope names otherwise → SuitsCon scope names (con.If p test branch otherwise)
-    suits_con_vif : {scope : Scope} {names : Names} (p : Place) {test : Cond} {branch : Con} {otherwise : Option Con} → SuitsCond scope names test →
+    suits_con_vif : {names : Names} (p : Place) {test : Cond} {branch : Con} {otherwise : Option Con} → SuitsCond scope names test →
         SuitsCon scope names branch → SuitsOtherwise scope names otherwise → SuitsCon scope names (con.Vif p test branch otherwise)
 
   -- what stands behind `else` suits, if it is there
-  pub data SuitsOtherwise : Scope → Names → Option Con → Type 0 where
-    suits_no_otherwise : {scope : Scope} {names : Names} → SuitsOtherwise scope names None
-    suits_otherwise : {scope : Scope} {names : Names} {c : Con} → SuitsCon scope names c → SuitsOtherwise scope names (Some c)
+  pub data SuitsOtherwise (scope : Scope) : Names → Option Con → Type 0 where
+    suits_no_otherwise : {names : Names} → SuitsOtherwise scope names None
+    suits_otherwise : {names : Names} {c : Con} → SuitsCon scope names c → SuitsOtherwise scope names (Some c)
 
   -- constraints that suit
-  pub data ConsSuit : Scope → Names → List Con → Type 0 where
-    suits_no_con : {scope : Scope} {names : Names} → ConsSuit scope names []
-    suits_one_con : {scope : Scope} {names : Names} {c : Con} {cs : List Con} → SuitsCon scope names c → ConsSuit scope names cs → ConsSuit scope names (c ∷ cs)
+  pub data ConsSuit (scope : Scope) : Names → List Con → Type 0 where
+    suits_no_con : {names : Names} → ConsSuit scope names []
+    suits_one_con : {names : Names} {c : Con} {cs : List Con} → SuitsCon scope names c → ConsSuit scope names cs → ConsSuit scope names (c ∷ cs)

@@ -40,7 +40,7 @@ pub enum Const {
     /// `(a)`
     Paren(Place, Boxed<Const>),
     /// `{ body }`
-    Braces(Place, TBody),
+    Braces(Place, Boxed<TBody>),
     /// `if a then b else c end`
     If(Place, Boxed<Const>, Boxed<Const>, Boxed<Const>),
     /// `a!!`, with the place of each `!`.
@@ -84,8 +84,8 @@ pub struct Loop {
     pub place: Place,
     /// What a tuple of the set has to be, component by component.
     pub slots: Items<LoopSlot>,
-    pub set: Const,
-    pub cond: Option<Const>,
+    pub set: Boxed<Const>,
+    pub cond: Option<Boxed<Const>>,
 }
 
 /// What one component of a tuple has to be.
@@ -97,7 +97,7 @@ pub enum LoopSlot {
     /// Equal to the component at this earlier position, counted from 0, which binds a name.
     Again(usize),
     /// Equal to this value.
-    Fixed(Const),
+    Fixed(Boxed<Const>),
 }
 
 /// What stands in braces.

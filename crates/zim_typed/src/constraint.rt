@@ -6,19 +6,19 @@ use zim_fault::{Bytes, Join, Place, Relation};
 #[derive(Drop)]
 pub enum Term {
     /// A number without variables.
-    Known(Const),
+    Known(Boxed<Const>),
     /// A variable with its index, which is empty where the variable has none.
     Column(Place, Bytes, Items<Const>),
     /// A sum: what stands behind the first operand is added, or taken off where the flag says so.
     Sum(Boxed<Term>, Items<(Place, bool, Term)>),
     /// A product: a factor without variables before the term, with the place of the `*` between them, if there is one,
     /// and the factors behind the term; it is divided by those of which the flag says so.
-    Product(Option<(Const, Place)>, Boxed<Term>, Items<(Place, bool, Const)>),
+    Product(Option<(Boxed<Const>, Place)>, Boxed<Term>, Items<(Place, bool, Const)>),
     Minus(Place, Boxed<Term>),
     /// `sum index : a`
-    SumOver(Place, Loop, Boxed<Term>),
+    SumOver(Place, Boxed<Loop>, Boxed<Term>),
     /// `if a then b else c end`, where `a` is without variables.
-    If(Place, Const, Boxed<Term>, Boxed<Term>),
+    If(Place, Boxed<Const>, Boxed<Term>, Boxed<Term>),
     /// `vabs(a)`
     Abs(Place, Boxed<Term>),
 }
@@ -27,8 +27,8 @@ pub enum Term {
 #[derive(Drop)]
 pub enum Cond {
     /// A truth value without variables.
-    Known(Const),
-    Compare(Place, Relation, Term, Term),
+    Known(Boxed<Const>),
+    Compare(Place, Relation, Boxed<Term>, Boxed<Term>),
     /// Conditions that are joined from the left.
     Chain(Boxed<Cond>, Items<(Place, Join, Cond)>),
     Not(Place, Boxed<Cond>),
@@ -38,13 +38,13 @@ pub enum Cond {
 #[derive(Drop)]
 pub enum Con {
     /// Two terms are compared by `<=`, `>=` or `==`.
-    Compare(Place, Relation, Term, Term),
+    Compare(Place, Relation, Boxed<Term>, Boxed<Term>),
     /// A term lies between two numbers, which stand as they are written: `a <= t <= b` or `a >= t >= b`.
-    Range(Place, Relation, Const, Term, Const),
+    Range(Place, Relation, Boxed<Const>, Boxed<Term>, Boxed<Const>),
     And(Items<Con>),
     Forall(Place, Loop, Boxed<Con>),
     /// A constraint that is picked by a truth value without variables; where it picks none, nothing is asked.
-    If(Place, Const, Boxed<Con>, Option<Boxed<Con>>),
+    If(Place, Boxed<Const>, Boxed<Con>, Option<Boxed<Con>>),
     /// A constraint that is picked by a condition; where it picks none, nothing is asked.
     Vif(Place, Cond, Boxed<Con>, Option<Boxed<Con>>),
 }

@@ -12,7 +12,7 @@ pub struct TStmt {
     pub at: Place,
     /// What it declares. A `do` declares nothing and has the empty name.
     pub name: Bytes,
-    pub shape: TShape,
+    pub shape: Boxed<TShape>,
 }
 
 /// What a statement says of its name.
@@ -25,14 +25,14 @@ pub enum TShape {
         Option<TBracket>,
         Option<Word>,
         Items<TLimit>,
-        Option<(Place, Const)>,
-        Option<(Place, Const)>,
+        Option<(Place, Boxed<Const>)>,
+        Option<(Place, Boxed<Const>)>,
     ),
     /// An objective; the flag says `maximize`.
-    Goal(bool, Term),
-    Subto(Con),
+    Goal(bool, Boxed<Term>),
+    Subto(Boxed<Con>),
     /// A function: the word that says what it gives, its parameters and its body.
-    Define(Word, Items<(Place, Bytes)>, Const),
+    Define(Word, Items<(Place, Bytes)>, Boxed<Const>),
     Do(TDoing),
 }
 
@@ -40,14 +40,14 @@ pub enum TShape {
 #[derive(Drop)]
 pub enum TBracket {
     Empty,
-    Loop(Loop),
-    Over(Const),
+    Loop(Boxed<Loop>),
+    Over(Boxed<Const>),
 }
 
 /// What a set is declared to be.
 #[derive(Drop)]
 pub enum TSetSide {
-    Value(Const),
+    Value(Boxed<Const>),
     Read(TReading),
     /// For each index the set that belongs to it.
     Entries(Items<(TAngle, Const)>),
@@ -56,12 +56,12 @@ pub enum TSetSide {
 /// What a parameter is declared to be, with a default behind the word `default`.
 #[derive(Drop)]
 pub enum TParSide {
-    Value(Const),
-    Read(TReading, Option<(Place, Const)>),
+    Value(Boxed<Const>),
+    Read(TReading, Option<(Place, Boxed<Const>)>),
     /// For each index the value that belongs to it.
-    Entries(Items<(TAngle, Const)>, Option<(Place, Const)>),
-    Table(TTable, Option<(Place, Const)>),
-    Default(Place, Const),
+    Entries(Items<(TAngle, Const)>, Option<(Place, Boxed<Const>)>),
+    Table(TTable, Option<(Place, Boxed<Const>)>),
+    Default(Place, Boxed<Const>),
 }
 
 /// `| "a", "b" |` and rows as `| 1 | 2, 3 |`.
@@ -80,7 +80,7 @@ pub struct TLimit {
     pub place: Place,
     /// Whether it is a `>=`.
     pub lower: bool,
-    pub side: Const,
+    pub side: Boxed<Const>,
 }
 
 /// `read "file" as "template" skip 1`
@@ -88,8 +88,8 @@ pub struct TLimit {
 pub struct TReading {
     /// Of its `as`.
     pub place: Place,
-    pub file: Const,
-    pub template: Const,
+    pub file: Boxed<Const>,
+    pub template: Boxed<Const>,
     /// `skip`, `use` and `comment` with their operands, in the order of the text.
     pub options: Items<(Place, Word, Const)>,
 }
@@ -98,7 +98,7 @@ pub struct TReading {
 #[derive(Drop)]
 pub enum TDoing {
     Print(Place, Items<TPrinted>),
-    Check(Place, Const),
+    Check(Place, Boxed<Const>),
     /// `forall index : doing`; the flag says `do` in place of `:`.
     Forall(Place, Boxed<Loop>, bool, Boxed<TDoing>),
 }
@@ -106,6 +106,6 @@ pub enum TDoing {
 /// What a `print` prints.
 #[derive(Drop)]
 pub enum TPrinted {
-    Value(Const),
+    Value(Boxed<Const>),
     Tuple(TAngle),
 }
