@@ -10,7 +10,7 @@ use Rattle.zim_gate.specs.Counts.{IsFrontOf}
 use Rattle.zim_gate.specs.Folder.{FolderState, Files, bytes_held}
 use Rattle.zim_table.specs.Reader.{Table as TableSaid, table}
 use Rattle.zim_table.specs.Ended.{EndsInEnd, only_line, last_line}
-use Rattle.zim_table.proofs.Whole.{front_is_whole}
+use Rattle.zim_table.proofs.WholeLaws.{front_is_whole}
 use Rattle.zim_cli.specs.declared.ending.Ending.{Ending}
 use Rattle.zim_cli.specs.declared.jobs.Job.{Job}
 use Rattle.zim_cli.specs.declared.jobs.Job.TheVariants.{Compile}

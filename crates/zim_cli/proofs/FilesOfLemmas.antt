@@ -1,5 +1,5 @@
 -- The texts that are written for a model's system are files of the model.
-use Rattle.std.proofs.Common.{◌≡◌, ◌↔◌, ℕ, ◌≤◌, ℤ, Bool, true, false, List, length, map, Some, refl, subst, sym, ap, ◌∙◌, arith, pos, negsuc, neg_ℤ}
+use Rattle.std.proofs.Common.{◌≡◌, ◌↔◌, ℕ, ◌≤◌, ℤ, Bool, true, false, List, length, map, refl, subst, sym, ap, ◌∙◌, arith, pos, negsuc, neg_ℤ}
 use Rattle.std.specs.Prelude.{if◌then◌else◌, ◌≤ℤ◌, ◌*ℤ◌}
 use Rattle.std.specs.List.{enumerate_from}
 use Rattle.std.proofs.lemmas.Int.{ints}
@@ -13,13 +13,11 @@ use Rattle.zim_rows.specs.Finished.{program_of}
 use Rattle.zim_rows.specs.Named.{file_columns}
 use Rattle.zim_rows.specs.Program.{LinearProgram}
 use Rattle.zim_rows.specs.Represents.{numbers_in_file}
-use Rattle.zim_rows.proofs.NamedLemmas.{kept_length}
+use Rattle.zim_rows.proofs.NamedLaws.{kept_length}
 use Rattle.zim_lp.specs.Correct.{SaysProgram}
 use Rattle.zim_mps.specs.Correct.{mps_factor, SaysMinimised}
-use Rattle.zim_table.specs.Reader.{Table, table, cut}
-use Rattle.zim_table.specs.Text.{minimised_factor}
-use Rattle.zim_table.specs.Correct.{numbered_pair, table_said}
-use Rattle.zim_table.proofs.Cut.{cut_said}
+use Rattle.zim_table.specs.Reader.{Table, cut}
+use Rattle.zim_table.specs.Correct.{numbered_pair, table_said, SaysNames}
 use Rattle.zim_plain.specs.declared.plain_form.PlainModel.{PlainModel}
 use Rattle.zim_plain.specs.Statements.{Text, Model}
 use Rattle.zim_plain.specs.Meaning.{Assignment, IsAssignment, Obj}
@@ -45,12 +43,12 @@ whole_negated f =
     let same : negsuc 0 *ℤ f ≡ neg_ℤ f = omega (arith, ints) in
     whole_times (negsuc 0) f ∙ ap whole same
 
-mps_times : (aim : Bool) (f : ℤ) (q : Rational) → times (whole (mps_factor aim)) (times (whole f) q) ≡ times (whole (minimised_factor aim f)) q
+mps_times : (aim : Bool) (f : ℤ) (q : Rational) → times (whole (mps_factor aim)) (times (whole f) q) ≡ times (whole (if aim then neg_ℤ f else f)) q
 unfolding whole one
 mps_times true f q = sym (times_assoc (whole (negsuc 0)) (whole f) q) ∙ ap (λ (k : Rational). times k q) (whole_negated f)
 mps_times false f q = one_times (times (whole f) q)
 
-module _ (model : Model) (read : PlainModel) (says : Says model read) (lp : SaysProgram (texts_of read).lp (program_of read.system)) (mps : SaysMinimised (texts_of read).mps (program_of read.system)) where
+module _ (model : Model) (read : PlainModel) (says : Says model read) (lp : SaysProgram (texts_of read).lp (program_of read.system)) (mps : SaysMinimised (texts_of read).mps (program_of read.system)) (tables : SaysNames (texts_of read).table (program_of read.system) read.variables) where
   abbrev program : LinearProgram
   program = program_of read.system
 
@@ -61,7 +59,7 @@ module _ (model : Model) (read : PlainModel) (says : Says model read) (lp : Says
   counted = ap length says.variables_are ∙ sym says.columns
 
   cut-numbers : (point : Point) → cut names point ≡ numbers_in_file (length read.system.columns) point
-  cut-numbers point = cut_said program read.variables point counted
+  cut-numbers point = tables.cut_is point
 
   solves : (point : Point) → IsPoint lp.instance point → rows.IsPoint (written_program program) (cut names point)
   solves point is = subst (λ (values : Assignment). rows.IsPoint (written_program program) values) (sym (cut-numbers point)) (lp.represents.solves point is)
@@ -102,14 +100,14 @@ module _ (model : Model) (read : PlainModel) (says : Says model read) (lp : Says
       ap (λ (ns : Assignment). rows.objective_at program ns) (sym (cut-numbers point))
       ∙ says.objective (cut names point) (assigns point is)
 
-  pub files_of_system : table (texts_of read).table ≡ Some names → AreFilesOf model (texts_of read)
-  files_of_system table_is = record {
+  pub files_of_system : AreFilesOf model (texts_of read)
+  files_of_system = record {
     lp_instance = lp.instance;
     lp_reads = lp.read;
     mps_instance = mps.instance;
     mps_reads = mps.read;
     names = names;
-    table_reads = table_is;
+    table_reads = tables.read;
     pairs = ap (λ (ns : List Text). map numbered_pair (enumerate_from 1 ns)) says.variables_are;
     paired = pairs_in_instance lp.instance.column (file_columns program) names.pairs lp.says.columns
         (pairs_in_file program read.variables counted);

@@ -2,7 +2,6 @@ pub mod SameTexts
 mod ParsedLemmas
 mod ParsingLemmas
 mod RowPositions
-mod WithinLemmas
 mod BreakLemmas
 mod CompileLemmas
 mod EndedTable

@@ -1,22 +1,14 @@
 -- How a compilation and the writing of its files end a run.
 use Rattle.std.proofs.Common.{◌≡◌, ℕ, List, ◌∷◌, Option, None, Some, option_map, Result, Ok, Err, refl, sym, ◌∙◌, ap, subst, IfOk, IfErr}
 use Rattle.std.specs.Prelude.{⊤, ◌+◌, length}
-use Rattle.std.specs.List.{AllByRecursion}
 use Rattle.zim_gate.specs.Counts.{Rose, count_on, IsFrontOf}
 use Rattle.zim_gate.specs.Folder.{FolderState, Files}
 use Rattle.zim_rows.specs.Finished.{program_of}
-use Rattle.zim_rows.specs.Program.{LinearProgram}
-use Rattle.zim_lp.specs.Correct.{SaysProgram}
-use Rattle.zim_lp.specs.Within.{IsProgramWithin}
-use Rattle.zim_lp.proofs.Represent as lp
-use Rattle.zim_mps.specs.Correct.{SaysMinimised}
-use Rattle.zim_mps.specs.Readable.{HasReadableRange}
-use Rattle.zim_mps.proofs.TextSays as mps
+use Rattle.zim_lp.proofs.TextLaws as lp
+use Rattle.zim_mps.proofs.TextLaws as mps
 use Rattle.zim_table.specs.Correct.{CanBeListed}
-use Rattle.zim_table.proofs.TextSays as table
+use Rattle.zim_table.proofs.TextLaws as table
 use Rattle.zim_plain.specs.declared.plain_form.PlainModel.{PlainModel}
-use Rattle.zim_plain.specs.Statements.{Model}
-use Rattle.zim_plain.specs.Answers.{Says}
 use Rattle.zim_cli.specs.declared.outputs.Output.{Output}
 use Rattle.zim_cli.specs.declared.outputs.Output.TheVariants.{Lp, Mps, Table}
 use Rattle.zim_cli.specs.declared.outputs.OutputNames.{OutputNames}
@@ -35,7 +27,6 @@ use Rattle.zim_cli.specs.Run as run
 use Rattle.zim_cli.specs.Run.{Ended, OfTexts}
 use Rattle.zim_cli.proofs.CompileLemmas.{where_map}
 use Rattle.zim_cli.proofs.FilesOfLemmas.{files_of_system}
-use Rattle.zim_cli.proofs.WithinLemmas.{program_within, program_reads, model_ranges}
 
 -- a compilation that stopped ends the run
 stops_early : (before now : FolderState) (model base : List ℕ) (r : Result PlainModel Ending) (e : Ending) → r ≡ Err e → Makes before now model r → IfErr r IsReportable → KeepsFiles before now →
@@ -90,18 +81,6 @@ made_from before between model _ plain is no_memory held faults = absurd (not_ok
 pub made_by : (before between : FolderState) (model : List ℕ) (r : Result PlainModel Ending) (plain : PlainModel) → r ≡ Ok plain → Compiles before between model r → Made before between model plain
 made_by before between model r plain is compiles = made_from before between model r plain is compiles.makes compiles.keeps compiles.write_faults
 
--- the texts of a model's system say it
-lp_says : {model : Model} (read : PlainModel) → Says model read → SaysProgram (texts_of read).lp (program_of read.system)
-lp_says {model} read says =
-    lp.text_says (program_of read.system) read.system.program (subst IsProgramWithin (sym says.program_is) (program_within model says.system says.system_is says.faultless))
-
-mps_says : {model : Model} (read : PlainModel) → Says model read → SaysMinimised (texts_of read).mps (program_of read.system)
-mps_says {model} read says =
-    mps.text_says (program_of read.system) read.system.program
-    (program_reads (program_of read.system) read.system.program
-    (subst IsProgramWithin (sym says.program_is) (program_within model says.system says.system_is says.faultless))
-    (subst (λ (p : LinearProgram). AllByRecursion HasReadableRange p.rows) (sym says.program_is) (model_ranges model says.system says.system_is)))
-
 -- what is so of the texts of the system is so of the files of the model
 of_texts : (read : PlainModel) (Is : Texts → Type 0) → CanBeListed (program_of read.system) read.variables (names_of_statements read) → Is (texts_of read) → (files : Files) (name : List ℕ) → HasSystem read files name → OfTexts Is files name
 of_texts read Is listed is files name has = record {
@@ -109,7 +88,9 @@ of_texts read Is listed is files name has = record {
   read = has.read;
   system = read;
   is_system = has.says;
-  say = files_of_system has.model read has.says (lp_says read has.says) (mps_says read has.says)
+  say = files_of_system has.model read has.says
+      (lp.text_says (program_of read.system) read.system.program)
+      (mps.text_says (program_of read.system) read.system.program)
       (table.text_says (program_of read.system) read.variables (names_of_statements read) read.system.program listed);
   is = is;
 }

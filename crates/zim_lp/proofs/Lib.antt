@@ -7,6 +7,6 @@ pub mod File
 pub mod Meaning
 pub mod ProgramParts
 pub mod ProgramFile
-pub mod Represent
+pub mod TextLaws
 pub mod Pieces
 mod Examples

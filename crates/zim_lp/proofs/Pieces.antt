@@ -1,10 +1,10 @@
 -- The texts of the writer's loops, one piece further, and texts that are put in another way than they are defined.
-use Rattle.std.proofs.Common.{◌≡◌, ℕ, zero, suc, ◌+◌, ◌-◌, ◌<◌, ◌≤◌, Bool, true, false, cond, ◌||◌, List, [], ◌∷◌, ◌++◌, length, take, drop, get_or, map, refl, sym, ◌∙◌, ap, ap₂, subst, append_assoc, zero-add, add-one, arith}
-use Rattle.std.specs.Prelude.{codes, flat_map, All}
+use Rattle.std.proofs.Common.{◌≡◌, ℕ, zero, suc, ◌+◌, ◌-◌, ◌<◌, ◌≤◌, Bool, true, false, cond, ◌||◌, List, [], ◌∷◌, ◌++◌, length, take, drop, get_or, map, refl, sym, ◌∙◌, ap, ap₂, append_assoc, zero-add, add-one, arith}
+use Rattle.std.specs.Prelude.{codes, flat_map}
 use Rattle.std.specs.Fmt.{digits}
 use Rattle.std.specs.List.{enumerate_from, list_any}
 use Rattle.std.proofs.lemmas.List.{append-nil, take_all}
-use Rattle.std.proofs.lemmas.List.Elements.{All-more, filter-append}
+use Rattle.std.proofs.lemmas.List.Elements.{filter-append}
 use Rattle.zim_rational.specs.Rational as rational
 use Rattle.zim_rational.specs.Rational.{Rational, whole}
 use Rattle.zim_decimal.specs.Short.{short_text, decimal_text, point_and, decimals}
@@ -37,10 +37,6 @@ numbered-next text first (x ∷ xs) (suc i) d h =
 pub numbered_step : {X : Type 0} (text : ℕ × X → List ℕ) (first : ℕ) (xs : List X) (i : ℕ) (x : X) → i < length xs → x ≡ get_or xs i x → flat_map text (enumerate_from first (take i xs)) ++ text (i + first, x) ≡ flat_map text (enumerate_from first (take (i + 1) xs))
 numbered_step text first xs i x h is =
     ap (λ y. flat_map text (enumerate_from first (take i xs)) ++ text (i + first, y)) is ∙ sym (numbered-next text first xs i x h)
-
--- what holds of it and of those before it
-pub all_step : {X : Type 0} (P : X → Type 0) (xs : List X) (i : ℕ) (x : X) → i < length xs → x ≡ get_or xs i x → All P (take i xs) → P x → All P (take (i + 1) xs)
-all_step P xs i x h is all p = All-more P xs i x h all (subst P is p)
 
 flat_map_mapped : {X Y : Type 0} (f : Y → List ℕ) (g : X → Y) (xs : List X) → flat_map (λ x. f (g x)) xs ≡ flat_map f (map g xs)
 flat_map_mapped f g [] = refl

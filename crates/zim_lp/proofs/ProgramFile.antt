@@ -16,14 +16,13 @@ use Rattle.zim_rows.specs.declared.rows.Column.{Column}
 use Rattle.zim_rows.specs.declared.rows.Row.{Row}
 use Rattle.zim_rows.specs.declared.rows.RowKind.{RowKind}
 use Rattle.zim_rows.specs.declared.rows.RowKind.TheVariants.{One, Range}
-use Rattle.zim_rows.specs.Program.{LinearProgram, IsRow, IsProgram}
+use Rattle.zim_rows.specs.Program.{LinearProgram, HasSidesWithin, IsRow, IsProgram}
 use Rattle.zim_rows.specs.Named.{column_name, offset_name, has_offset, file_columns, named_term}
-use Rattle.zim_rows.proofs.NamedLemmas.{file_columns_distinct}
+use Rattle.zim_rows.proofs.NamedLaws.{file_columns_distinct}
 use Rattle.zim_lp.specs.Words.{Word}
 use Rattle.zim_lp.specs.Program.{is_among}
 use Rattle.zim_lp.specs.FileText.{WrittenTerm, WrittenRow, WrittenColumn}
 use Rattle.zim_lp.specs.Text.{short_number, first_name, written_term, or_zero, written_terms, offset_term, written_objective, rows_of_kind, written_row, written_rows, written_column, written_offset, written_columns, written_file}
-use Rattle.zim_lp.specs.Within.{IsRowWithin, IsColumnWithin, IsProgramWithin}
 use Rattle.zim_lp.proofs.Readable.{term_said, row_said, system_said, IsReadableTerm, IsReadableColumn, column_names, AreOver, IsReadableFile}
 use Rattle.zim_lp.proofs.Meaning.{among_append}
 use Rattle.zim_lp.proofs.ProgramParts.{all_append, IsFileTerm, IsFileRow, file_terms, terms_readable, or_zero_readable, offset_term_readable, or_named_zero, named_offset, objective_same, each_file_row, rows_readable, file_row, rows_same, columns_readable, offset_column_readable, columns_said}
@@ -125,19 +124,18 @@ file_system p = record {
 record AreFileParts (p : LinearProgram) : Type 0 where
   pub objective : AllByRecursion (IsFileTerm (length p.columns)) p.target.terms
   pub rows : AllByRecursion (IsFileRow (length p.columns)) p.rows
-  pub columns : AllByRecursion IsColumnWithin p.columns
+  pub columns : AllByRecursion HasSidesWithin p.columns
 
-file_parts : (p : LinearProgram) → IsProgram p.columns p.rows p.target → IsProgramWithin p → AreFileParts p
-file_parts p is within = record {
-  objective = file_terms (length p.columns) p.target.terms is.objective.columns is.objective.short within.target.terms;
-  rows =
-      each_file_row (length p.columns) p.rows (recursion_from_All (IsRow (length p.columns)) p.rows is.each_row) (recursion_from_All IsRowWithin p.rows within.rows);
-  columns = recursion_from_All IsColumnWithin p.columns within.columns;
+file_parts : (p : LinearProgram) → IsProgram p.columns p.rows p.target → AreFileParts p
+file_parts p is = record {
+  objective = file_terms (length p.columns) p.target.terms is.objective.columns is.objective.short is.objective.terms_within;
+  rows = each_file_row (length p.columns) p.rows (recursion_from_All (IsRow (length p.columns)) p.rows is.each_row);
+  columns = recursion_from_All HasSidesWithin p.columns is.sides_within;
 }
 
-pub program_readable : (p : LinearProgram) → IsProgram p.columns p.rows p.target → IsProgramWithin p → IsReadableFile (written_file p)
-program_readable p is within =
-    let parts : AreFileParts p = file_parts p is within in
+pub program_readable : (p : LinearProgram) → IsProgram p.columns p.rows p.target → IsReadableFile (written_file p)
+program_readable p is =
+    let parts : AreFileParts p = file_parts p is in
     let few : length p.columns ≤ 1000000 = is.few_columns in
     let few_rows : length p.rows ≤ 1000000 = is.few_rows in
     let h : length p.columns < 2 ^ 32 = omega arith in
@@ -146,7 +144,7 @@ program_readable p is within =
           or_zero_readable
           (length p.columns)
           (map written_term p.target.terms ++ offset_term p.target.constant)
-          (all_append IsReadableTerm (map written_term p.target.terms) (offset_term p.target.constant) (terms_readable (length p.columns) h p.target.terms parts.objective) (offset_term_readable p.target.constant is.objective.short_constant within.target.constant));
+          (all_append IsReadableTerm (map written_term p.target.terms) (offset_term p.target.constant) (terms_readable (length p.columns) h p.target.terms parts.objective) (offset_term_readable p.target.constant is.objective.short_constant is.objective.constant_within));
       objective_over =
           or_zero_over
           p
@@ -168,13 +166,13 @@ system_by : Bool → List NamedColumn → List instance.Row → List instance.Te
 system_by maximises columns rows objective = record { columns = columns; rows = rows; objective = objective; maximises = maximises }
 
 -- the system of the file's parts
-pub system_same : (p : LinearProgram) → IsProgram p.columns p.rows p.target → IsProgramWithin p → system_said (written_file p) ≡ file_system p
+pub system_same : (p : LinearProgram) → IsProgram p.columns p.rows p.target → system_said (written_file p) ≡ file_system p
 unfolding system_by
-system_same p is within =
-    let parts : AreFileParts p = file_parts p is within in
+system_same p is =
+    let parts : AreFileParts p = file_parts p is in
     let n : ℕ = length p.columns in
     ap (λ cs. system_by p.target.maximize cs (map row_said (written_rows n p.rows)) (map term_said (written_objective n p.target.terms p.target.constant))) (columns_said p parts.columns)
     ∙ ap₂
     (λ (rs : List instance.Row) (ts : List instance.Term). system_by p.target.maximize (file_columns p) rs ts)
     (rows_same n 1 p.rows parts.rows)
-    (objective_same n p.target.terms p.target.constant parts.objective is.objective.short_constant within.target.constant)
+    (objective_same n p.target.terms p.target.constant parts.objective is.objective.short_constant is.objective.constant_within)

@@ -1,13 +1,15 @@
 -- The terms, rows and columns of a program can be read, and what they say is the program by name.
-use Rattle.std.proofs.Common.{◌≡◌, ℕ, ◌+◌, ◌<◌, ◌≤◌, ◌^◌, Bool, true, false, cond, IsTrue, List, [], ◌∷◌, ◌++◌, length, map, Option, Some, None, IfSome, refl, sym, ◌∙◌, ap, ap₂, append_assoc, arith, lit<}
+use Rattle.std.proofs.Common.{◌≡◌, unsigned_abs, nat_le, ℕ, ◌+◌, ◌<◌, ◌≤◌, ◌^◌, Bool, true, false, cond, IsTrue, List, [], ◌∷◌, ◌++◌, length, map, Option, Some, None, IfSome, refl, sym, ◌∙◌, ap, ap₂, append_assoc, arith, lit<}
 use Rattle.std.specs.Prelude.{◌==◌, codes, decimal, flat_map, option_map, All}
 use Rattle.std.specs.List.{AllByRecursion, enumerate_from}
 use Rattle.std.proofs.lemmas.List.{map-append}
 use Rattle.std.proofs.lemmas.List.Elements.{recursion_from_All}
+use Rattle.std.proofs.lemmas.Bool.{and_parts, leb-true}
 use Rattle.std.proofs.lemmas.Slice.Eq.{ends_is}
 use Rattle.std.proofs.lemmas.Bool.Decides.{Decides-eqb}
 use Rattle.zim_rational.specs.Rational as rational
 use Rattle.zim_rational.specs.Rational.{Rational, same}
+use Rattle.zim_fraction.specs.Limit.{limit}
 use Rattle.zim_decimal.specs.Short.{is_short}
 use Rattle.zim_linear.specs.Forms.{Term, AreColumns}
 use Rattle.zim_instance.specs.Instance as instance
@@ -19,13 +21,12 @@ use Rattle.zim_rows.specs.declared.rows.RowKind.TheVariants.{One, Range}
 use Rattle.zim_rows.specs.declared.rows.Sense.{Sense}
 use Rattle.zim_rows.specs.declared.rows.Sense.TheVariants.{AtLeast, AtMost}
 use Rattle.zim_rows.specs.Covered.{written_side}
-use Rattle.zim_rows.specs.Program.{LinearProgram, IsShortTerm, IsShortKind, IsRow}
+use Rattle.zim_rows.specs.Program.{LinearProgram, IsShortTerm, IsShortKind, IsWithin, IsTermWithin, IsKindWithin, HasSidesWithin, IsRow}
 use Rattle.zim_rows.specs.Named.{column_name, row_name, offset_name, has_offset, named_column, offset_column, file_columns, named_term}
 use Rattle.zim_lp.specs.Words.{Word}
 use Rattle.zim_lp.specs.Syntax.{is_label}
 use Rattle.zim_lp.specs.FileText.{WrittenTerm}
 use Rattle.zim_lp.specs.Text.{short_number, first_name, written_term, or_zero, written_terms, offset_term, written_objective, row_label, high_label, compared, rows_of_kind, written_row, written_column, written_offset, written_columns}
-use Rattle.zim_lp.specs.Within.{IsWithin, IsTermWithin, IsKindWithin, IsRowWithin, IsColumnWithin}
 use Rattle.zim_lp.proofs.Cutting.{IsWord}
 use Rattle.zim_lp.proofs.Numbers.{IsNumber-short, decimal_word, plain_append}
 use Rattle.zim_lp.proofs.Readable.{number_said, term_said, row_by, row_said, column_said, IsReadableNumber, IsReadableNumber-from, number_said-is, IsReadableName, IsReadableTerm, AreReadableTerms, IsReadableRow, IsReadableEnd, IsReadableColumn}
@@ -38,11 +39,14 @@ all_append P (x ∷ xs) ys p q = (p.0, all_append P xs ys p.1 q)
 
 -- numbers
 
+numer_within : (q : Rational) → IsWithin q → unsigned_abs q.numer ≤ limit
+numer_within q within = leb-true (unsigned_abs q.numer) limit (and_parts (nat_le (unsigned_abs q.numer) limit) (nat_le q.denom limit) within).0
+
 short_readable : (q : Rational) → IsTrue (is_short q) → IsWithin q → IsReadableNumber (short_number q)
-short_readable q short bound = IsReadableNumber-from (short_number q) q (IsNumber-short q short bound)
+short_readable q short within = IsReadableNumber-from (short_number q) q (IsNumber-short q short (numer_within q within))
 
 short_said : (q : Rational) → IsTrue (is_short q) → IsWithin q → number_said (short_number q) ≡ q
-short_said q short bound = number_said-is (short_number q) q (IsNumber-short q short bound)
+short_said q short within = number_said-is (short_number q) q (IsNumber-short q short (numer_within q within))
 
 zero_short : IsTrue (is_short rational.zero)
 unfolding rational.zero rational.whole is_short
@@ -50,7 +54,7 @@ zero_short = refl
 
 zero_within : IsWithin rational.zero
 unfolding rational.zero rational.whole
-zero_within = omega arith
+zero_within = refl
 
 one_short : IsTrue (is_short rational.one)
 unfolding rational.one rational.whole is_short
@@ -58,7 +62,7 @@ one_short = refl
 
 one_within : IsWithin rational.one
 unfolding rational.one rational.whole
-one_within = omega arith
+one_within = refl
 
 -- names and labels
 
@@ -129,12 +133,12 @@ pub or_zero_readable : (n : ℕ) (ts : List WrittenTerm) → AllByRecursion IsRe
 or_zero_readable n [] all = (record { number = short_readable rational.zero zero_short zero_within; name = first_readable (n == 0) }, tt)
 or_zero_readable n (t ∷ ts) all = all
 
-pub offset_term_readable : (c : Rational) → IsTrue (is_short c) → (same c rational.zero ≡ false → IsWithin c) → AllByRecursion IsReadableTerm (offset_term c)
-offset_term_readable c short within = by_test (same c rational.zero) within
+pub offset_term_readable : (c : Rational) → IsTrue (is_short c) → IsWithin c → AllByRecursion IsReadableTerm (offset_term c)
+offset_term_readable c short within = by_test (same c rational.zero)
   where
-    by_test : (b : Bool) → (b ≡ false → IsWithin c) → AllByRecursion IsReadableTerm (cond b [] (record { number = short_number c; name = offset_name } ∷ []))
-    by_test true within = tt
-    by_test false within = (record { number = short_readable c short (within refl); name = offset_readable }, tt)
+    by_test : (b : Bool) → AllByRecursion IsReadableTerm (cond b [] (record { number = short_number c; name = offset_name } ∷ []))
+    by_test true = tt
+    by_test false = (record { number = short_readable c short within; name = offset_readable }, tt)
 
 -- the terms by name, as the file has them: without any, 0 times its first column
 abbrev pub or_named_zero : ℕ → List instance.Term → List instance.Term
@@ -153,12 +157,12 @@ each_term_same n [] all = refl
 each_term_same n (t ∷ ts) all =
     ap₂ (λ (s : instance.Term) (rest : List instance.Term). s ∷ rest) (term_same (column_name t.0) t.1 all.0.short all.0.within) (each_term_same n ts all.1)
 
-offset_same : (c : Rational) → IsTrue (is_short c) → (same c rational.zero ≡ false → IsWithin c) → map term_said (offset_term c) ≡ named_offset c
-offset_same c short within = by_test (same c rational.zero) within
+offset_same : (c : Rational) → IsTrue (is_short c) → IsWithin c → map term_said (offset_term c) ≡ named_offset c
+offset_same c short within = by_test (same c rational.zero)
   where
-    by_test : (b : Bool) → (b ≡ false → IsWithin c) → map term_said (cond b [] (record { number = short_number c; name = offset_name } ∷ [])) ≡ cond b [] (record { name = offset_name; coefficient = c } ∷ [])
-    by_test true within = refl
-    by_test false within = ap (λ t. t ∷ []) (term_same offset_name c short (within refl))
+    by_test : (b : Bool) → map term_said (cond b [] (record { number = short_number c; name = offset_name } ∷ [])) ≡ cond b [] (record { name = offset_name; coefficient = c } ∷ [])
+    by_test true = refl
+    by_test false = ap (λ t. t ∷ []) (term_same offset_name c short within)
 
 or_zero_same : (n : ℕ) (ts : List WrittenTerm) → map term_said (or_zero n ts) ≡ or_named_zero n (map term_said ts)
 or_zero_same n [] = ap (λ t. t ∷ []) (term_same (first_name n) rational.zero zero_short zero_within)
@@ -167,7 +171,7 @@ or_zero_same n (t ∷ ts) = refl
 terms_same : (n : ℕ) (ts : List Term) → AllByRecursion (IsFileTerm n) ts → map term_said (written_terms n ts) ≡ or_named_zero n (map named_term ts)
 terms_same n ts all = or_zero_same n (map written_term ts) ∙ ap (or_named_zero n) (each_term_same n ts all)
 
-pub objective_same : (n : ℕ) (ts : List Term) (c : Rational) → AllByRecursion (IsFileTerm n) ts → IsTrue (is_short c) → (same c rational.zero ≡ false → IsWithin c) → map term_said (written_objective n ts c) ≡ or_named_zero n (map named_term ts ++ named_offset c)
+pub objective_same : (n : ℕ) (ts : List Term) (c : Rational) → AllByRecursion (IsFileTerm n) ts → IsTrue (is_short c) → IsWithin c → map term_said (written_objective n ts c) ≡ or_named_zero n (map named_term ts ++ named_offset c)
 objective_same n ts c all short within =
     or_zero_same n (map written_term ts ++ offset_term c)
     ∙ ap
@@ -183,10 +187,10 @@ pub record IsFileRow (n : ℕ) (row : Row) : Type 0 where
   pub short : IsShortKind row.kind
   pub within : IsKindWithin row.kind
 
-pub each_file_row : (n : ℕ) (rows : List Row) → AllByRecursion (IsRow n) rows → AllByRecursion IsRowWithin rows → AllByRecursion (IsFileRow n) rows
-each_file_row n [] are within = tt
-each_file_row n (row ∷ rows) are within =
-    (record { terms = file_terms n row.terms are.0.columns are.0.short within.0.terms; short = are.0.kind; within = within.0.kind }, each_file_row n rows are.1 within.1)
+pub each_file_row : (n : ℕ) (rows : List Row) → AllByRecursion (IsRow n) rows → AllByRecursion (IsFileRow n) rows
+each_file_row n [] are = tt
+each_file_row n (row ∷ rows) are =
+    (record { terms = file_terms n row.terms are.0.columns are.0.short are.0.terms_within; short = are.0.kind; within = are.0.kind_within }, each_file_row n rows are.1)
 
 compared_readable : (label : Word) (terms : List WrittenTerm) (sense : Sense) (right : Rational) → IsWord label → is_label label ≡ true → AreReadableTerms terms → IsTrue (is_short right) → IsWithin right → IsReadableRow (compared label terms sense right)
 compared_readable label terms sense right word is readable short within =
@@ -242,23 +246,23 @@ rows_same n first (row ∷ rows) all =
 
 -- columns
 
-side_readable : (side : Option Rational) → IfSome (written_side side) IsWithin → IsReadableEnd (option_map short_number (written_side side))
+side_readable : (side : Option Rational) → IfSome side IsWithin → IsReadableEnd (option_map short_number (written_side side))
 side_readable None within = tt
-side_readable (Some q) within = by_test (is_short q) refl within
+side_readable (Some q) within = by_test (is_short q) refl
   where
-    by_test : (b : Bool) → is_short q ≡ b → IfSome (cond b (Some q) None) IsWithin → IsReadableEnd (option_map short_number (cond b (Some q) None))
-    by_test true short within = short_readable q short within
-    by_test false short within = tt
+    by_test : (b : Bool) → is_short q ≡ b → IsReadableEnd (option_map short_number (cond b (Some q) None))
+    by_test true short = short_readable q short within
+    by_test false short = tt
 
-side_same : (side : Option Rational) → IfSome (written_side side) IsWithin → option_map number_said (option_map short_number (written_side side)) ≡ written_side side
+side_same : (side : Option Rational) → IfSome side IsWithin → option_map number_said (option_map short_number (written_side side)) ≡ written_side side
 side_same None within = refl
-side_same (Some q) within = by_test (is_short q) refl within
+side_same (Some q) within = by_test (is_short q) refl
   where
-    by_test : (b : Bool) → is_short q ≡ b → IfSome (cond b (Some q) None) IsWithin → option_map number_said (option_map short_number (cond b (Some q) None)) ≡ cond b (Some q) None
-    by_test true short within = ap (λ r. Some r) (short_said q short within)
-    by_test false short within = refl
+    by_test : (b : Bool) → is_short q ≡ b → option_map number_said (option_map short_number (cond b (Some q) None)) ≡ cond b (Some q) None
+    by_test true short = ap (λ r. Some r) (short_said q short within)
+    by_test false short = refl
 
-pub columns_readable : (first : ℕ) (columns : List Column) → first + length columns ≤ 2 ^ 64 → AllByRecursion IsColumnWithin columns → AllByRecursion IsReadableColumn (map written_column (enumerate_from first columns))
+pub columns_readable : (first : ℕ) (columns : List Column) → first + length columns ≤ 2 ^ 64 → AllByRecursion HasSidesWithin columns → AllByRecursion IsReadableColumn (map written_column (enumerate_from first columns))
 columns_readable first [] room all = tt
 columns_readable first (c ∷ cs) room all =
     (record { name = column_readable first (omega arith); lower = side_readable c.sides.low all.0.low; upper = side_readable c.sides.high all.0.high }, columns_readable (first + 1) cs (omega arith) all.1)
@@ -268,14 +272,14 @@ offset_column_readable true =
     (record { name = offset_readable; lower = short_readable rational.one one_short one_within; upper = short_readable rational.one one_short one_within }, tt)
 offset_column_readable false = tt
 
-column_same : (j : ℕ) (c : Column) → IsColumnWithin c → column_said (written_column (j, c)) ≡ named_column (j, c)
+column_same : (j : ℕ) (c : Column) → HasSidesWithin c → column_said (written_column (j, c)) ≡ named_column (j, c)
 column_same j c within =
     ap₂
     (λ (low high : Option Rational). let d : NamedColumn = record { name = column_name j; column = record { integer = c.integer; lower = low; upper = high } } in d)
     (side_same c.sides.low within.low)
     (side_same c.sides.high within.high)
 
-columns_same : (first : ℕ) (columns : List Column) → AllByRecursion IsColumnWithin columns → map column_said (map written_column (enumerate_from first columns)) ≡ map named_column (enumerate_from first columns)
+columns_same : (first : ℕ) (columns : List Column) → AllByRecursion HasSidesWithin columns → map column_said (map written_column (enumerate_from first columns)) ≡ map named_column (enumerate_from first columns)
 columns_same first [] all = refl
 columns_same first (c ∷ cs) all =
     ap₂ (λ (d : NamedColumn) (ds : List NamedColumn). d ∷ ds) (column_same first c all.0) (columns_same (first + 1) cs all.1)
@@ -286,7 +290,7 @@ offset_column_same true =
 offset_column_same false = refl
 
 -- the columns of a program's file
-pub columns_said : (p : LinearProgram) → AllByRecursion IsColumnWithin p.columns → map column_said (written_columns p) ≡ file_columns p
+pub columns_said : (p : LinearProgram) → AllByRecursion HasSidesWithin p.columns → map column_said (written_columns p) ≡ file_columns p
 columns_said p all =
     map-append column_said (map written_column (enumerate_from 1 p.columns)) (cond (has_offset p) (written_offset ∷ []) [])
     ∙ ap₂ (λ (cs ds : List NamedColumn). cs ++ ds) (columns_same 1 p.columns all) (offset_column_same (has_offset p))

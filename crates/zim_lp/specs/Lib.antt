@@ -5,5 +5,4 @@ pub mod Syntax
 pub mod Reader
 pub mod FileText
 pub mod Text
-pub mod Within
 pub mod Correct

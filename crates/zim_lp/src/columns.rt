@@ -1,5 +1,5 @@
 // The bounds of columns, and the names of the integer ones.
-ghost use Rattle.std.specs.Prelude.{◌≡◌, ℕ, [], ◌∷◌, flat_map, map, All, IsTrue, IfSome, option_map, if◌then◌else◌};
+ghost use Rattle.std.specs.Prelude.{◌≡◌, ℕ, [], ◌∷◌, flat_map, map, IsTrue, IfSome, option_map, if◌then◌else◌};
 ghost use Rattle.std.specs.List.{enumerate_from, list_any};
 ghost use Rattle.zim_decimal.specs.Short as decimal;
 ghost use Rattle.zim_gate.specs.Pen.{Writes};
@@ -8,7 +8,6 @@ ghost use Rattle.zim_rows.specs.Covered as covered;
 ghost use Rattle.zim_rows.specs.Named.{column_name};
 ghost use Rattle.zim_lp.specs.FileText.{ends_text, bound_text, general_text, generals_text, integers};
 ghost use Rattle.zim_lp.specs.Text.{short_number, written_column, written_offset};
-ghost use Rattle.zim_lp.specs.Within.{IsWithin, IsColumnWithin};
 
 use crate::decimals::put_number;
 use crate::terms::put_column_name;
@@ -19,8 +18,7 @@ use zim_rows::Column;
 
 // Puts the bounds of the columns in order, numbered from 1.
 pub(crate) fn put_bounds<F: Folder>(pen: &mut Pen<F>, columns: &[Column])
-    ensures text { Writes F.state pen.old pen.new (flat_map (λ (p : ℕ × model.Column). bound_text (written_column p)) (enumerate_from 1 columns.now)) }
-    ensures within { All IsColumnWithin columns.now }
+    ensures { Writes F.state pen.old pen.new (flat_map (λ (p : ℕ × model.Column). bound_text (written_column p)) (enumerate_from 1 columns.now)) }
 {
     for (index, column) in columns.iter().enumerate() {
         put_bound(pen, index + 1, column);
@@ -29,8 +27,7 @@ pub(crate) fn put_bounds<F: Folder>(pen: &mut Pen<F>, columns: &[Column])
 
 // Puts the bound of a column, by its number.
 fn put_bound<F: Folder>(pen: &mut Pen<F>, number: usize, column: &Column)
-    ensures text { Writes F.state pen.old pen.new (bound_text (written_column (number, column.now))) }
-    ensures within { IsColumnWithin column.now }
+    ensures { Writes F.state pen.old pen.new (bound_text (written_column (number, column.now))) }
 {
     let low = written_side(&column.sides.low);
     let high = written_side(&column.sides.high);
@@ -57,9 +54,7 @@ fn put_ends<F: Folder>(
 )
     requires low { IfSome low (λ q. IsTrue (decimal.is_short q)) }
     requires high { IfSome high (λ q. IsTrue (decimal.is_short q)) }
-    ensures text { Writes F.state pen.old pen.new (ends_text (column_name number) (option_map short_number low) (option_map short_number high)) }
-    ensures low { IfSome low IsWithin }
-    ensures high { IfSome high IsWithin }
+    ensures { Writes F.state pen.old pen.new (ends_text (column_name number) (option_map short_number low) (option_map short_number high)) }
 {
     match (low, high) {
         (Some(low), Some(high)) => put_both_ends(pen, number, low, high),
@@ -72,9 +67,7 @@ fn put_ends<F: Folder>(
 fn put_both_ends<F: Folder>(pen: &mut Pen<F>, number: usize, low: Fraction, high: Fraction)
     requires low { IsTrue (decimal.is_short low) }
     requires high { IsTrue (decimal.is_short high) }
-    ensures text { Writes F.state pen.old pen.new (ends_text (column_name number) (Some (short_number low)) (Some (short_number high))) }
-    ensures low { IsWithin low }
-    ensures high { IsWithin high }
+    ensures { Writes F.state pen.old pen.new (ends_text (column_name number) (Some (short_number low)) (Some (short_number high))) }
 {
     pen.put(b" ");
     put_number(pen, low);
@@ -87,8 +80,7 @@ fn put_both_ends<F: Folder>(pen: &mut Pen<F>, number: usize, low: Fraction, high
 
 fn put_low_end<F: Folder>(pen: &mut Pen<F>, number: usize, low: Fraction)
     requires { IsTrue (decimal.is_short low) }
-    ensures text { Writes F.state pen.old pen.new (ends_text (column_name number) (Some (short_number low)) None) }
-    ensures within { IsWithin low }
+    ensures { Writes F.state pen.old pen.new (ends_text (column_name number) (Some (short_number low)) None) }
 {
     pen.put(b" ");
     put_column_name(pen, number);
@@ -99,8 +91,7 @@ fn put_low_end<F: Folder>(pen: &mut Pen<F>, number: usize, low: Fraction)
 
 fn put_high_end<F: Folder>(pen: &mut Pen<F>, number: usize, high: Fraction)
     requires { IsTrue (decimal.is_short high) }
-    ensures text { Writes F.state pen.old pen.new (ends_text (column_name number) None (Some (short_number high))) }
-    ensures within { IsWithin high }
+    ensures { Writes F.state pen.old pen.new (ends_text (column_name number) None (Some (short_number high))) }
 {
     pen.put(b" -inf <= ");
     put_column_name(pen, number);

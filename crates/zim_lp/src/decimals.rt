@@ -5,7 +5,6 @@ ghost use Rattle.zim_gate.specs.Pen.{Writes};
 ghost use Rattle.zim_lp.specs.FileText.{number_text};
 ghost use Rattle.zim_lp.specs.Text as exact;
 ghost use Rattle.zim_lp.specs.Text.{short_number};
-ghost use Rattle.zim_lp.specs.Within.{IsWithin};
 
 use zim_decimal::write_short;
 use zim_fraction::{Fraction, negated};
@@ -14,8 +13,7 @@ use zim_gate::{Folder, Pen};
 // Puts a number with its sign.
 pub(crate) fn put_number<F: Folder>(pen: &mut Pen<F>, number: Fraction)
     requires { IsTrue (decimal.is_short number) }
-    ensures text { Writes F.state pen.old pen.new (number_text (short_number number)) }
-    ensures within { IsWithin number }
+    ensures { Writes F.state pen.old pen.new (number_text (short_number number)) }
 {
     pen.put(minus(is_negative(number)));
     put_magnitude(pen, number);
@@ -33,8 +31,7 @@ pub(crate) fn put_magnitude<F: Folder>(pen: &mut Pen<F>, number: Fraction)
 
 // Whether a number is below 0.
 pub(crate) fn is_negative(number: Fraction) -> bool
-    ensures value { result ≡ int_lt number.numer (pos 0) }
-    ensures within { IsWithin number }
+    ensures { result ≡ int_lt number.numer (pos 0) }
 {
     number.numer() < 0
 }

@@ -8,7 +8,6 @@ ghost use Rattle.zim_rows.specs.Named.{row_name};
 ghost use Rattle.zim_rows.specs.Program.{IsShortTerm, IsShortKind, IsRow};
 ghost use Rattle.zim_lp.specs.FileText.{sense_text, row_text};
 ghost use Rattle.zim_lp.specs.Text.{written_terms, compared, written_row};
-ghost use Rattle.zim_lp.specs.Within.{IsWithin, IsTermWithin, IsRowWithin};
 
 use crate::decimals::put_number;
 use crate::terms::put_terms;
@@ -20,8 +19,7 @@ use zim_rows::{Row, RowKind, Sense};
 // Puts the rows in order, numbered from 1, in a file with so many columns before `one`.
 pub(crate) fn put_rows<F: Folder>(pen: &mut Pen<F>, columns: usize, rows: &[Row])
     requires { All (IsRow columns) rows.now }
-    ensures text { Writes F.state pen.old pen.new (flat_map (λ (p : ℕ × model.Row). flat_map row_text (written_row columns p)) (enumerate_from 1 rows.now)) }
-    ensures within { All IsRowWithin rows.now }
+    ensures { Writes F.state pen.old pen.new (flat_map (λ (p : ℕ × model.Row). flat_map row_text (written_row columns p)) (enumerate_from 1 rows.now)) }
 {
     for (index, row) in rows.iter().enumerate() {
         put_row(pen, columns, index + 1, row);
@@ -32,8 +30,7 @@ pub(crate) fn put_rows<F: Folder>(pen: &mut Pen<F>, columns: usize, rows: &[Row]
 fn put_row<F: Folder>(pen: &mut Pen<F>, columns: usize, number: usize, row: &Row)
     requires terms { All IsShortTerm row.now.terms }
     requires kind { IsShortKind row.now.kind }
-    ensures text { Writes F.state pen.old pen.new (flat_map row_text (written_row columns (number, row.now))) }
-    ensures within { IsRowWithin row.now }
+    ensures { Writes F.state pen.old pen.new (flat_map row_text (written_row columns (number, row.now))) }
 {
     let terms = row.terms.as_slice();
     match row.kind {
@@ -59,9 +56,7 @@ fn put_compared<F: Folder>(
 )
     requires terms { All IsShortTerm terms.now }
     requires right { IsTrue (decimal.is_short right) }
-    ensures text { Writes F.state pen.old pen.new (row_text (compared (row_name number ++ ending.now) (written_terms columns terms.now) sense right)) }
-    ensures terms { All IsTermWithin terms.now }
-    ensures right { IsWithin right }
+    ensures { Writes F.state pen.old pen.new (row_text (compared (row_name number ++ ending.now) (written_terms columns terms.now) sense right)) }
 {
     pen.put(b" ");
     put_label(pen, number, ending);

@@ -8,7 +8,6 @@ ghost use Rattle.zim_rows.specs.Named.{column_name, offset_name};
 ghost use Rattle.zim_rows.specs.Program.{IsShortTerm, IsTarget};
 ghost use Rattle.zim_lp.specs.FileText.{first_term_text, break_text, sign_text, further_term_text, terms_text};
 ghost use Rattle.zim_lp.specs.Text.{short_number, first_name, written_term, or_zero, written_terms, written_objective};
-ghost use Rattle.zim_lp.specs.Within.{IsWithin, IsTermWithin, IsTargetWithin};
 
 use crate::decimals::{is_negative, put_magnitude, put_number};
 use zim_fraction::Fraction;
@@ -19,8 +18,7 @@ use zim_rows::Target;
 // Puts the objective in a file with so many columns before `one`.
 pub(crate) fn put_objective<F: Folder>(pen: &mut Pen<F>, columns: usize, target: &Target)
     requires { IsTarget columns target.now }
-    ensures text { Writes F.state pen.old pen.new (terms_text (written_objective columns target.now.terms target.now.constant)) }
-    ensures within { IsTargetWithin target.now }
+    ensures { Writes F.state pen.old pen.new (terms_text (written_objective columns target.now.terms target.now.constant)) }
 {
     if target.constant.same_number(&Fraction::zero()) {
         put_terms(pen, columns, target.terms.as_slice());
@@ -33,9 +31,7 @@ pub(crate) fn put_objective<F: Folder>(pen: &mut Pen<F>, columns: usize, target:
 fn put_terms_and_offset<F: Folder>(pen: &mut Pen<F>, terms: &[Term], constant: Fraction)
     requires terms { All IsShortTerm terms.now }
     requires constant { IsTrue (decimal.is_short constant) }
-    ensures text { Writes F.state pen.old pen.new (terms_text (map written_term terms.now ++ record { number = short_number constant; name = offset_name } ∷ [])) }
-    ensures terms { All IsTermWithin terms.now }
-    ensures constant { IsWithin constant }
+    ensures { Writes F.state pen.old pen.new (terms_text (map written_term terms.now ++ record { number = short_number constant; name = offset_name } ∷ [])) }
 {
     match terms {
         [] => put_first_offset(pen, constant),
@@ -50,8 +46,7 @@ fn put_terms_and_offset<F: Folder>(pen: &mut Pen<F>, terms: &[Term], constant: F
 // Puts the terms of a list, or 0 times the file's first column where it has none.
 pub(crate) fn put_terms<F: Folder>(pen: &mut Pen<F>, columns: usize, terms: &[Term])
     requires { All IsShortTerm terms.now }
-    ensures text { Writes F.state pen.old pen.new (terms_text (written_terms columns terms.now)) }
-    ensures within { All IsTermWithin terms.now }
+    ensures { Writes F.state pen.old pen.new (terms_text (written_terms columns terms.now)) }
 {
     match terms {
         [] => put_zero_term(pen, columns),
@@ -72,8 +67,7 @@ fn put_zero_term<F: Folder>(pen: &mut Pen<F>, columns: usize)
 
 fn put_first_term<F: Folder>(pen: &mut Pen<F>, term: &Term)
     requires { IsTrue (decimal.is_short term.now.1) }
-    ensures text { Writes F.state pen.old pen.new (first_term_text (written_term term.now)) }
-    ensures within { IsWithin term.now.1 }
+    ensures { Writes F.state pen.old pen.new (first_term_text (written_term term.now)) }
 {
     let (column, coefficient) = *term;
     put_number(pen, coefficient);
@@ -83,8 +77,7 @@ fn put_first_term<F: Folder>(pen: &mut Pen<F>, term: &Term)
 
 fn put_first_offset<F: Folder>(pen: &mut Pen<F>, constant: Fraction)
     requires { IsTrue (decimal.is_short constant) }
-    ensures text { Writes F.state pen.old pen.new (first_term_text (record { number = short_number constant; name = offset_name })) }
-    ensures within { IsWithin constant }
+    ensures { Writes F.state pen.old pen.new (first_term_text (record { number = short_number constant; name = offset_name })) }
 {
     put_number(pen, constant);
     pen.put(b" one");
@@ -93,8 +86,7 @@ fn put_first_offset<F: Folder>(pen: &mut Pen<F>, constant: Fraction)
 // Puts the terms that follow the first.
 fn put_further_terms<F: Folder>(pen: &mut Pen<F>, terms: &[Term])
     requires { All IsShortTerm terms.now }
-    ensures text { Writes F.state pen.old pen.new (flat_map (λ (p : ℕ × forms.Term). further_term_text p.0 (written_term p.1)) (enumerate_from 1 terms.now)) }
-    ensures within { All IsTermWithin terms.now }
+    ensures { Writes F.state pen.old pen.new (flat_map (λ (p : ℕ × forms.Term). further_term_text p.0 (written_term p.1)) (enumerate_from 1 terms.now)) }
 {
     for (index, term) in terms.iter().enumerate() {
         put_further_term(pen, index + 1, term);
@@ -104,8 +96,7 @@ fn put_further_terms<F: Folder>(pen: &mut Pen<F>, terms: &[Term])
 // Puts a term that follows so many others.
 fn put_further_term<F: Folder>(pen: &mut Pen<F>, before: usize, term: &Term)
     requires { IsTrue (decimal.is_short term.now.1) }
-    ensures text { Writes F.state pen.old pen.new (further_term_text before (written_term term.now)) }
-    ensures within { IsWithin term.now.1 }
+    ensures { Writes F.state pen.old pen.new (further_term_text before (written_term term.now)) }
 {
     let (column, coefficient) = *term;
     pen.put(break_before(before));
@@ -118,8 +109,7 @@ fn put_further_term<F: Folder>(pen: &mut Pen<F>, before: usize, term: &Term)
 // Puts a constant as a term of `one` that follows so many others.
 fn put_further_offset<F: Folder>(pen: &mut Pen<F>, before: usize, constant: Fraction)
     requires { IsTrue (decimal.is_short constant) }
-    ensures text { Writes F.state pen.old pen.new (further_term_text before (record { number = short_number constant; name = offset_name })) }
-    ensures within { IsWithin constant }
+    ensures { Writes F.state pen.old pen.new (further_term_text before (record { number = short_number constant; name = offset_name })) }
 {
     pen.put(break_before(before));
     pen.put(sign(is_negative(constant)));

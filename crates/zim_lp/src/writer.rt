@@ -1,7 +1,6 @@
 ghost use Rattle.std.specs.Prelude.{◌≡◌, IsSome};
 ghost use Rattle.zim_gate.specs.Folder.{Puts};
 ghost use Rattle.zim_rows.specs.Finished.{program_of};
-ghost use Rattle.zim_lp.specs.Correct.{SaysProgram};
 ghost use Rattle.zim_lp.specs.FileText.{aim_text};
 ghost use Rattle.zim_lp.specs.Text.{lp_text};
 
@@ -16,13 +15,12 @@ pub type PutFault = Failed;
 
 /// Puts the LP text of a system to the file that is begun, and leaves it begun.
 ///
-/// After `Failed` a prefix of the text was put. Read in the LP format, the text says the system with its sides that are
-/// decimals of at most 15 places, and with a column `one` that is always 1 where the objective has a constant or there
-/// is no other column. The time is proportional to the numbers of columns, rows and entries.
+/// After `Failed` a prefix of the text was put. By [`texts_say_programs`](crate::texts_say_programs) the text says the
+/// system with its sides that are decimals of at most 15 places, and with a column `one` that is always 1 where the objective has
+/// a constant or there is no other column. The time is proportional to the numbers of columns, rows and entries.
 pub fn write<F: Folder>(system: &Finished, folder: &mut F) -> Result<(), PutFault>
     requires { IsSome (F.state folder.old).begun }
-    ensures text { Puts (F.state folder.old) (F.state folder.new) (lp_text (program_of system.now)) result }
-    ensures says { SaysProgram (lp_text (program_of system.now)) (program_of system.now) }
+    ensures { Puts (F.state folder.old) (F.state folder.new) (lp_text (program_of system.now)) result }
 {
     let columns = system.columns.as_slice();
     let mut pen = Pen::new(folder);

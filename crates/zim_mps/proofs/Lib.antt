@@ -1,5 +1,6 @@
 pub mod Lines
 pub mod Numbers
+pub mod Readable
 pub mod Said
 pub mod Parsing
 pub mod Transposed
@@ -8,7 +9,8 @@ pub mod ColumnLemmas
 pub mod Consistent
 pub mod Meaning
 pub mod Objective
-pub mod TextSays
+pub mod ProgramReads
+pub mod TextLaws
 mod Examples
 pub mod Pieces
 pub mod CostLemmas

@@ -19,7 +19,7 @@ use Rattle.zim_decimal.specs.Reading.{number_of_parts, number_without_sign, numb
 use Rattle.zim_decimal.proofs.TokenLemmas.{all_digits}
 use Rattle.zim_linear.proofs.WholeFormLemmas.{whole_from_divides, divides_from_whole}
 use Rattle.zim_rows.specs.Program.{IsShortRange}
-use Rattle.zim_rows.proofs.ShortLemmas.{short_from_divides, divides_from_short}
+use Rattle.zim_rows.proofs.ShortLaws.{short_from_divides, divides_from_short}
 
 -- ---- texts
 

@@ -15,7 +15,7 @@ use Rattle.zim_linear.specs.Forms.{Term, AreTermsFrom, AreTerms, AreColumns}
 use Rattle.zim_rows.specs.declared.rows.Column.{Column}
 use Rattle.zim_rows.specs.Program.{LinearProgram}
 use Rattle.zim_rows.specs.Named.{column_name, offset_name, named_term, named_objective, has_offset}
-use Rattle.zim_rows.proofs.RepresentLemmas.{sum_at_both}
+use Rattle.zim_rows.proofs.RepresentLaws.{sum_at_both}
 use Rattle.zim_mps.specs.Program.{Entry, terms_of_row}
 use Rattle.zim_mps.specs.Text.{FileColumn, coefficient_of, minimised, cost_of, numbered_column, offset_column, numbered_columns, offset_columns, file_columns}
 use Rattle.zim_mps.specs.Correct.{minimised_term, mps_factor}

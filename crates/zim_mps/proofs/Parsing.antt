@@ -18,7 +18,7 @@ use Rattle.zim_mps.specs.Sections.Line.{Heading, Fields}
 use Rattle.zim_mps.specs.Program.{Entry, Setting}
 use Rattle.zim_mps.specs.Syntax.{read_each, read_row, is_marker, read_entries, read_setting, read_bound, read_program}
 use Rattle.zim_mps.specs.Text.{NumberedRow, FileColumn, row_text, columns_text, last_mark, right_text, is_range, has_range, range_text, ranges_text, bound_text, file_columns, mps_text}
-use Rattle.zim_mps.specs.Readable.{IsReadable, IsReadableSide, IsReadableTerm, IsReadableColumn, HasReadableSides, HasReadableRight, IsReadableRange, HasReadableRange, IsReadableProgram}
+use Rattle.zim_mps.proofs.Readable.{IsReadable, IsReadableSide, IsReadableTerm, IsReadableColumn, HasReadableSides, HasReadableRight, IsReadableRange, HasReadableRange, IsReadableProgram}
 use Rattle.zim_mps.proofs.Lines.{Gives, Gives-append, Gives-heading, Gives-fields, parts-section}
 use Rattle.zim_mps.proofs.Said.{kind_field, row_fields, entry_fields, column_lines, marker_lines, front_lines, columns_lines, right_fields, range_lines_of, range_lines, sides_lines, bound_lines, said_kind, said_row, said_entry, said_cost, said_column, said_right, said_range_of, said_range, said_sides, said_bound, said, over_rows, row_texts, column_texts, right_texts, range_texts, bound_texts}
 

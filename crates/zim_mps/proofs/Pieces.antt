@@ -1,7 +1,7 @@
--- How the text of a file is put together from pieces, and what is known of the numbers in each.
-use Rattle.std.proofs.Common.{◌≡◌, ℕ, ◌+◌, ◌<◌, Bool, true, false, ◌||◌, cond, List, [], ◌∷◌, ◌++◌, length, map, take, get_or, refl, sym, ◌∙◌, ap, subst, arith, append_assoc, length-take}
+-- How the text of a file is put together from pieces.
+use Rattle.std.proofs.Common.{◌≡◌, ℕ, ◌+◌, ◌<◌, Bool, true, false, cond, List, [], ◌∷◌, ◌++◌, length, map, take, get_or, refl, sym, ◌∙◌, ap, arith, append_assoc, length-take}
 use Rattle.std.specs.Prelude.{◌==◌, All, flat_map, if◌then◌else◌}
-use Rattle.std.specs.List.{AllByRecursion, enumerate_from, filter}
+use Rattle.std.specs.List.{enumerate_from, filter}
 use Rattle.std.proofs.lemmas.List.{map-append, append-nil, take_more}
 use Rattle.std.proofs.lemmas.List.Concat.{flat_map-append}
 use Rattle.std.proofs.lemmas.List.FromFn.{get_or-map-range_with_len, length-map-range_with_len}
@@ -10,15 +10,11 @@ use Rattle.zim_rational.specs.Rational.{Rational}
 use Rattle.zim_linear.specs.Forms.{Term}
 use Rattle.zim_rows.specs.declared.rows.Column.{Column}
 use Rattle.zim_rows.specs.declared.rows.Row.{Row}
-use Rattle.zim_rows.specs.declared.rows.RowKind.{RowKind}
-use Rattle.zim_rows.specs.declared.rows.RowKind.TheVariants.{One, Range}
 use Rattle.zim_rows.specs.Entries.{entries_of_row, entries_of_column, entries_by_column}
 use Rattle.zim_rows.specs.Program.{LinearProgram, IsRow, IsShortTerm}
 use Rattle.zim_rows.specs.Named.{column_name, has_offset}
-use Rattle.zim_mps.specs.Text.{NumberedRow, FileColumn, numbered_column, offset_column, numbered_columns, offset_columns, file_columns, cost_of, cost_text, entry_text, column_text, marker_text, columns_front, last_mark, columns_text, is_range, has_range, bound_text}
-use Rattle.zim_mps.specs.Puts.{HasShortKind, column_sides_text, HasReadableColumnSides, offset_text}
-use Rattle.zim_mps.specs.Readable.{IsReadableColumn, HasReadableSides, IsReadableRange, HasReadableRange}
-use Rattle.zim_mps.proofs.Said.{all_append}
+use Rattle.zim_mps.specs.Text.{NumberedRow, FileColumn, numbered_column, offset_column, numbered_columns, offset_columns, file_columns, cost_of, cost_text, entry_text, column_text, marker_text, columns_front, last_mark, columns_text, bound_text}
+use Rattle.zim_mps.specs.Puts.{HasShortKind, column_sides_text, offset_text}
 
 -- ---- rows
 
@@ -27,19 +23,6 @@ pub short_kinds : (n : ℕ) (rows : List Row) → All (IsRow n) rows → All Has
 short_kinds n [] each = All-nil HasShortKind
 short_kinds n (row ∷ rows) each =
     All-cons HasShortKind row rows (All-head (IsRow n) row rows each).kind (short_kinds n rows (All-tail (IsRow n) row rows each))
-
--- where there is no range, nothing is asked of ranges
-pub no_ranges : (rows : List Row) → has_range rows ≡ false → All HasReadableRange rows
-no_ranges [] e = All-nil HasReadableRange
-no_ranges (row ∷ rows) e = by_test (is_range row.kind) refl e (no_ranges rows)
-  where
-    no_range : (kind : RowKind) → is_range kind ≡ false → IsReadableRange kind
-    no_range (One s right) f = tt
-    no_range (Range low high) f = cc
-
-    by_test : (b : Bool) → is_range row.kind ≡ b → (b || has_range rows) ≡ false → (has_range rows ≡ false → All HasReadableRange rows) → All HasReadableRange (row ∷ rows)
-    by_test false f e later = All-cons HasReadableRange row rows (no_range row.kind f) (later e)
-    by_test true f e later = cc
 
 -- ---- entries
 
@@ -125,11 +108,6 @@ column_put p i d before q es h here mark cost entries =
 pub mark_more : (p : LinearProgram) (i : ℕ) (d : Column) → i < length p.columns → last_mark false (first_columns p (i + 1)) ≡ (get_or p.columns i d).integer
 mark_more p i d h = ap (last_mark false) (first_more p i d h) ∙ mark-append false (first_columns p i) (numbered_column p (i + 1, get_or p.columns i d) ∷ [])
 
--- and what is known of its numbers
-pub reads_more : (p : LinearProgram) (i : ℕ) (d : Column) → i < length p.columns → AllByRecursion IsReadableColumn (first_columns p i) → IsReadableColumn (numbered_column p (i + 1, get_or p.columns i d)) → AllByRecursion IsReadableColumn (first_columns p (i + 1))
-reads_more p i d h all one =
-    subst (AllByRecursion IsReadableColumn) (sym (first_more p i d h)) (all_append IsReadableColumn (first_columns p i) (numbered_column p (i + 1, get_or p.columns i d) ∷ []) all (one, tt))
-
 -- the text of the columns, those of the program and then `one`
 pub columns_joined : (p : LinearProgram) → columns_front false (numbered_columns p) ++ (marker_text (last_mark false (numbered_columns p)) false ++ offset_text p) ≡ columns_text (file_columns p)
 columns_joined p = by_offset (has_offset p) (numbered_columns p)
@@ -159,13 +137,3 @@ pub bounds_joined : (p : LinearProgram) → flat_map column_sides_text (enumerat
 bounds_joined p =
     ap (λ t. t ++ flat_map bound_text (offset_columns p)) (sym (numbered_sides p 1 p.columns))
     ∙ sym (flat_map-append bound_text (numbered_columns p) (offset_columns p))
-
-sides_from : (p : LinearProgram) (first : ℕ) (columns : List Column) → All HasReadableColumnSides columns → AllByRecursion HasReadableSides (map (numbered_column p) (enumerate_from first columns))
-sides_from p first [] all = tt
-sides_from p first (c ∷ cs) all =
-    let here = All-head HasReadableColumnSides c cs all in
-    (record { low = here.low; high = here.high }, sides_from p (first + 1) cs (All-tail HasReadableColumnSides c cs all))
-
--- what is known of the numbers in the bounds
-pub sides_joined : (p : LinearProgram) → All HasReadableColumnSides p.columns → AllByRecursion HasReadableSides (offset_columns p) → AllByRecursion HasReadableSides (file_columns p)
-sides_joined p numbered offset = all_append HasReadableSides (numbered_columns p) (offset_columns p) (sides_from p 1 p.columns numbered) offset

@@ -21,7 +21,7 @@ use Rattle.zim_mps.specs.Program.{RowKind, RowLine, Entry, Setting, Bound, Progr
 use Rattle.zim_mps.specs.Program.RowKind.{Free, AtLeast, AtMost, Equal}
 use Rattle.zim_mps.specs.Sections.Line.{Fields}
 use Rattle.zim_mps.specs.Text.{NumberedRow, FileColumn, numbered_column, offset_column, numbered_columns, offset_columns, file_columns, kind_text, row_text, cost_text, entry_text, column_text, marker_text, columns_front, last_mark, columns_text, right_of, right_text, range_text_of, range_text, sides_text, bound_text}
-use Rattle.zim_mps.specs.Readable.{IsReadable, IsReadableSide, IsReadableTerm, IsReadableColumn, HasReadableSides, HasReadableRight, IsReadableRange, HasReadableRange}
+use Rattle.zim_mps.proofs.Readable.{IsReadable, IsReadableSide, IsReadableTerm, IsReadableColumn, HasReadableSides, HasReadableRight, IsReadableRange, HasReadableRange}
 use Rattle.zim_mps.proofs.Lines.{Gives, Gives-nil, Gives-append, Gives-fields}
 use Rattle.zim_mps.proofs.Numbers.{number_field}
 

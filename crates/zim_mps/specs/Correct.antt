@@ -1,17 +1,19 @@
--- What it means that an MPS text says a linear program.
+-- What it means that an MPS text says a linear program, and the law that the text of each does.
 use Rattle.std.specs.Prelude.{◌≡◌, ℕ, false, List, map, Some, pos, negsuc, if◌then◌else◌, Bool, ℤ}
+use Rattle.zim_rational.specs.Rational.{negate}
 use Rattle.zim_instance.specs.Instance as instance
 use Rattle.zim_instance.specs.Instance.{Instance}
 use Rattle.zim_instance.specs.System.{System, Says}
-use Rattle.zim_rows.specs.Program.{LinearProgram}
+use Rattle.zim_rows.specs.Program.{LinearProgram, IsProgram}
 use Rattle.zim_rows.specs.Named.{named_system, named_objective}
 use Rattle.zim_rows.specs.Represents.{Represents}
 use Rattle.zim_mps.specs.Reader.{mps}
-use Rattle.zim_mps.specs.Text.{minimised}
+use Rattle.zim_mps.specs.Text.{mps_text}
 
 -- A term of the objective, its coefficient negated where the program maximises.
 abbrev pub minimised_term : Bool → instance.Term → instance.Term
-minimised_term maximises term = record { name = term.name; coefficient = minimised maximises term.coefficient }
+minimised_term maximises term =
+    record { name = term.name; coefficient = if maximises then negate term.coefficient else term.coefficient }
 
 -- The program by name, minimised: where it maximises, each coefficient of its objective is the negative.
 abbrev pub minimised_system : LinearProgram → System
@@ -31,3 +33,7 @@ pub record SaysMinimised (text : List ℕ) (program : LinearProgram) : Type 0 wh
   pub read : mps text ≡ Some instance
   pub says : Says instance (minimised_system program)
   pub represents : Represents instance program (mps_factor program.target.maximize)
+
+-- The law of the format: the text of each program that a finished system may be says that program, minimised.
+abbrev pub TextsSayPrograms : Type 0
+TextsSayPrograms = (program : LinearProgram) → IsProgram program.columns program.rows program.target → SaysMinimised (mps_text program) program

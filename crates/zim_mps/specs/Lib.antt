@@ -4,5 +4,4 @@ pub mod Syntax
 pub mod Reader
 pub mod Text
 pub mod Correct
-pub mod Readable
 pub mod Puts

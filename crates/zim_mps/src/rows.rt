@@ -6,7 +6,6 @@ ghost use Rattle.zim_decimal.specs.Short.{is_short};
 ghost use Rattle.zim_gate.specs.Pen.{Writes};
 ghost use Rattle.zim_rows.specs.Program.{IsShortKind, IsShortRange};
 ghost use Rattle.zim_mps.specs.Puts.{HasShortKind};
-ghost use Rattle.zim_mps.specs.Readable.{IsReadable, IsReadableRange, HasReadableRight, HasReadableRange};
 ghost use Rattle.zim_mps.specs.Text as exact;
 ghost use Rattle.zim_mps.specs.Text.{kind_text, row_text, right_text, range_text, range_text_of, ranges_text};
 
@@ -45,8 +44,7 @@ fn letter_of(kind: &RowKind) -> &'static [u8]
 /// Puts the lines of RHS for rows that are numbered from 1.
 pub(crate) fn put_rights<F: Folder>(pen: &mut Pen<F>, rows: &[Row])
     requires { All HasShortKind rows.now }
-    ensures text { Writes F.state pen.old pen.new (flat_map right_text (enumerate_from 1 rows.now)) }
-    ensures reads { All HasReadableRight rows.now }
+    ensures { Writes F.state pen.old pen.new (flat_map right_text (enumerate_from 1 rows.now)) }
 {
     for (index, row) in rows.iter().enumerate() {
         put_right(pen, index + 1, row);
@@ -55,8 +53,7 @@ pub(crate) fn put_rights<F: Folder>(pen: &mut Pen<F>, rows: &[Row])
 
 fn put_right<F: Folder>(pen: &mut Pen<F>, number: usize, row: &Row)
     requires { HasShortKind row.now }
-    ensures text { Writes F.state pen.old pen.new (right_text (number, row.now)) }
-    ensures reads { HasReadableRight row.now }
+    ensures { Writes F.state pen.old pen.new (right_text (number, row.now)) }
 {
     pen.put(b" RHS ");
     put_row_name(pen, number);
@@ -80,8 +77,7 @@ fn right_of(kind: &RowKind) -> Fraction
 /// Puts the section RANGES for rows that are numbered from 1, where there is a range.
 pub(crate) fn put_ranges<F: Folder>(pen: &mut Pen<F>, rows: &[Row])
     requires { All HasShortKind rows.now }
-    ensures text { Writes F.state pen.old pen.new (ranges_text rows.now) }
-    ensures reads { All HasReadableRange rows.now }
+    ensures { Writes F.state pen.old pen.new (ranges_text rows.now) }
 {
     if has_range(rows) {
         pen.put(b"RANGES\n");
@@ -98,8 +94,7 @@ fn has_range(rows: &[Row]) -> bool
 
 fn put_range_lines<F: Folder>(pen: &mut Pen<F>, rows: &[Row])
     requires { All HasShortKind rows.now }
-    ensures text { Writes F.state pen.old pen.new (flat_map range_text (enumerate_from 1 rows.now)) }
-    ensures reads { All HasReadableRange rows.now }
+    ensures { Writes F.state pen.old pen.new (flat_map range_text (enumerate_from 1 rows.now)) }
 {
     for (index, row) in rows.iter().enumerate() {
         put_range(pen, index + 1, &row.kind);
@@ -108,8 +103,7 @@ fn put_range_lines<F: Folder>(pen: &mut Pen<F>, rows: &[Row])
 
 fn put_range<F: Folder>(pen: &mut Pen<F>, number: usize, kind: &RowKind)
     requires { IsShortKind kind.now }
-    ensures text { Writes F.state pen.old pen.new (range_text_of number kind.now) }
-    ensures reads { IsReadableRange kind.now }
+    ensures { Writes F.state pen.old pen.new (range_text_of number kind.now) }
 {
     match kind {
         RowKind::One(_, _) => {}
@@ -119,8 +113,7 @@ fn put_range<F: Folder>(pen: &mut Pen<F>, number: usize, kind: &RowKind)
 
 fn put_range_line<F: Folder>(pen: &mut Pen<F>, number: usize, range: Fraction)
     requires { IsTrue (is_short range) }
-    ensures text { Writes F.state pen.old pen.new (exact.range_line number range) }
-    ensures reads { IsReadable range }
+    ensures { Writes F.state pen.old pen.new (exact.range_line number range) }
 {
     pen.put(b" RNG ");
     put_row_name(pen, number);

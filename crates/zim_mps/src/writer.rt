@@ -1,7 +1,6 @@
 ghost use Rattle.std.specs.Prelude.{IsSome};
 ghost use Rattle.zim_gate.specs.Folder.{Puts};
 ghost use Rattle.zim_rows.specs.Finished.{program_of};
-ghost use Rattle.zim_mps.specs.Correct.{SaysMinimised};
 ghost use Rattle.zim_mps.specs.Text.{mps_text};
 
 use crate::bounds::put_bounds;
@@ -15,14 +14,13 @@ pub type PutFault = Failed;
 
 /// Puts the MPS text of a system to the file that is begun, and leaves it begun.
 ///
-/// After `Failed` a prefix of the text was put. Read in the free MPS format, the text says the system with its sides that are
+/// After `Failed` a prefix of the text was put. By [`texts_say_programs`](crate::texts_say_programs) the text says the system with its sides that are
 /// decimals of at most 15 places, and with a column `one` that is always 1 where the objective has a constant or there is
 /// no other column. It is minimised: where the system maximises, each number of the objective is written as its
 /// negative. The time is proportional to the numbers of columns, rows and entries.
 pub fn write<F: Folder>(system: &Finished, folder: &mut F) -> Result<(), PutFault>
     requires { IsSome (F.state folder.old).begun }
-    ensures text { Puts (F.state folder.old) (F.state folder.new) (mps_text (program_of system.now)) result }
-    ensures says { SaysMinimised (mps_text (program_of system.now)) (program_of system.now) }
+    ensures { Puts (F.state folder.old) (F.state folder.new) (mps_text (program_of system.now)) result }
 {
     let rows = system.rows.as_slice();
     let mut pen = Pen::new(folder);

@@ -16,7 +16,7 @@ use Rattle.zim_rational.proofs.Fraction.{denom-pos}
 use Rattle.zim_rational.proofs.Multiples.{lcm-pos, left_divides, right_divides, lcm_least}
 use Rattle.zim_decimal.specs.Short.{part}
 use Rattle.zim_rows.specs.Factors.{factor_from, factor_of, IsFactor, AreShortTimes, IsLeastFactor}
-use Rattle.zim_rows.proofs.ShortLemmas.{part-pos, short_times, from_short_times}
+use Rattle.zim_rows.proofs.ShortLaws.{part-pos, short_times, from_short_times}
 
 part_some : (q : Rational) → 0 < part q.denom
 part_some q = part-pos q.denom (denom-pos q)

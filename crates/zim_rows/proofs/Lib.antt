@@ -1,4 +1,4 @@
-pub mod ShortLemmas
+pub mod ShortLaws
 pub mod FactorLemmas
 pub mod ScaleLemmas
 pub mod PointLemmas
@@ -11,6 +11,6 @@ pub mod CoveredLemmas
 pub mod FinishLemmas
 pub mod ExtendLemmas
 pub mod CutLemmas
-pub mod NamedLemmas
-pub mod RepresentLemmas
+pub mod NamedLaws
+pub mod RepresentLaws
 mod Examples

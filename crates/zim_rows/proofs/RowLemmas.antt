@@ -17,8 +17,8 @@ use Rattle.zim_rows.specs.declared.rows.Target.{Target}
 use Rattle.zim_rows.specs.declared.rows.RowKind.{RowKind}
 use Rattle.zim_rows.specs.declared.rows.RowKind.TheVariants.{One, Range}
 use Rattle.zim_rows.specs.System.{IsColumn, IsKind, IsGivenRow, IsObjective, IsSystem}
-use Rattle.zim_rows.specs.Program.{IsShortTerm, IsShortKind, IsRow, IsTarget, IsProgram}
-use Rattle.zim_rows.specs.Factors.{scaled, coefficients, right_sides, row_factor, form_factor, kind_within, row_within, form_within, AreShortTimes}
+use Rattle.zim_rows.specs.Program.{IsShortTerm, IsShortKind, IsWithin, IsTermWithin, IsKindWithin, HasSidesWithin, IsRow, IsTarget, IsProgram}
+use Rattle.zim_rows.specs.Factors.{scaled, coefficients, right_sides, row_factor, form_factor, all_within, kind_within, row_within, form_within, AreShortTimes}
 use Rattle.zim_rows.specs.Scaled.{scaled_term, scaled_terms, scaled_kind, scaled_row, scaled_target, rows_fault, objective_fault, past_at}
 use Rattle.zim_rows.proofs.FactorLemmas.{factor_is_least}
 use Rattle.zim_rows.proofs.ScaleLemmas.{terms_scaled, columns_scaled, scaled_below}
@@ -45,7 +45,26 @@ short_kind k (Range low high) some is short within = record {
   difference = (and_parts (is_number (scaled k low) && is_number (scaled k high)) (is_sum_within (scaled k high) (negate (scaled k low))) within).1;
 }
 
-pub kind_part : (terms : List Term) (kind : RowKind) → IsTrue (row_within terms kind) → IsTrue (kind_within (row_factor terms kind) kind)
+terms_are_within : (k : ℕ) (ts : List Term) → IsTrue (all_within k (coefficients ts)) → All IsTermWithin (scaled_terms k ts)
+unfolding all_within
+terms_are_within k [] h = All-nil IsTermWithin
+terms_are_within k (t ∷ ts) h =
+    let both = and_parts (is_number (scaled k t.1)) (all_within k (coefficients ts)) h in
+    All-cons IsTermWithin (scaled_term k t) (scaled_terms k ts) both.0 (terms_are_within k ts both.1)
+
+kind_is_within : (k : ℕ) (kind : RowKind) → IsTrue (kind_within k kind) → IsKindWithin (scaled_kind k kind)
+unfolding kind_within
+kind_is_within k (One sense right) h = h
+kind_is_within k (Range low high) h =
+    let sides = and_parts (is_number (scaled k low) && is_number (scaled k high)) (is_sum_within (scaled k high) (negate (scaled k low))) h in
+    and_parts (is_number (scaled k low)) (is_number (scaled k high)) sides.0
+
+terms_part : (terms : List Term) (kind : RowKind) → IsTrue (row_within terms kind) → IsTrue (all_within (row_factor terms kind) (coefficients terms))
+unfolding row_within
+terms_part terms kind h =
+    (and_parts (all_within (row_factor terms kind) (coefficients terms)) (kind_within (row_factor terms kind) kind) (and_parts (nat_le (row_factor terms kind) limit) _ h).1).0
+
+kind_part : (terms : List Term) (kind : RowKind) → IsTrue (row_within terms kind) → IsTrue (kind_within (row_factor terms kind) kind)
 unfolding row_within
 kind_part terms kind h = (and_parts _ _ ((and_parts (nat_le (row_factor terms kind) limit) _ h).1)).1
 
@@ -66,6 +85,8 @@ scaled_is_row n row is within =
       columns = columns_scaled k n row.terms is.columns;
       short = short_terms k row.terms parts.0;
       kind = short_kind k row.kind some is.kind parts.1 (kind_part row.terms row.kind within);
+      terms_within = terms_are_within k row.terms (terms_part row.terms row.kind within);
+      kind_within = kind_is_within k row.kind (kind_part row.terms row.kind within);
     }
 
 -- ---- all rows
@@ -74,7 +95,7 @@ stays : (b : Bool) (more : Option Fault) (fault : Fault) → cond b more (Some f
 stays true more fault e = (refl, e)
 stays false more fault e = absurd (cc)
 
-pub no_fault : (row : GivenRow) (rows : List GivenRow) → rows_fault (row ∷ rows) ≡ None → IsTrue (row_within row.terms row.kind) × (rows_fault rows ≡ None)
+no_fault : (row : GivenRow) (rows : List GivenRow) → rows_fault (row ∷ rows) ≡ None → IsTrue (row_within row.terms row.kind) × (rows_fault rows ≡ None)
 unfolding rows_fault
 no_fault row rows e = stays (row_within row.terms row.kind) (rows_fault rows) (past_at row.from.place) e
 
@@ -90,6 +111,19 @@ short_zero : IsTrue (is_short zero)
 unfolding is_short zero rational.whole
 short_zero = refl
 
+zero_within : IsWithin zero
+unfolding rational.whole zero
+zero_within = refl
+
+-- the terms and the constant of an objective that isn't past
+form_numbers : (o : Objective) → objective_fault (Some o) ≡ None → All IsTermWithin (scaled_terms (form_factor o.form) o.form.terms) × IsWithin (scaled (form_factor o.form) o.form.constant)
+unfolding objective_fault form_within
+form_numbers o none =
+    let k : ℕ = form_factor o.form in
+    let within = stays (form_within o.form) None (past_at o.place) none in
+    let parts = and_parts (all_within k (coefficients o.form.terms)) (is_number (scaled k o.form.constant)) (and_parts (nat_le k limit) _ within.0).1 in
+    (terms_are_within k o.form.terms parts.0, parts.1)
+
 form_factor_within : (o : Objective) → objective_fault (Some o) ≡ None → form_factor o.form ≤ limit
 unfolding objective_fault form_within
 form_factor_within o none =
@@ -103,6 +137,8 @@ scaled_is_target n None is none = record {
   columns = tt;
   short = All-nil IsShortTerm;
   short_constant = short_zero;
+  terms_within = All-nil IsTermWithin;
+  constant_within = zero_within;
   minimises = λ _. refl;
   unscaled = λ _. refl;
   no_terms = λ _. refl;
@@ -112,6 +148,7 @@ scaled_is_target n (Some o) is none =
     let k : ℕ = form_factor o.form in
     let some : 0 < k = form_factor-pos o.form in
     let parts = short_parts k (coefficients o.form.terms) (o.form.constant ∷ []) (factor_is_least (coefficients o.form.terms ++ o.form.constant ∷ [])).short in
+    let numbers = form_numbers o none in
     record {
       factor = from_one k some;
       factor_within = form_factor_within o none;
@@ -119,6 +156,8 @@ scaled_is_target n (Some o) is none =
       columns = columns_scaled k n o.form.terms is.columns;
       short = short_terms k o.form.terms parts.0;
       short_constant = parts.1.0;
+      terms_within = numbers.0;
+      constant_within = numbers.1;
       minimises = λ no_place. absurd (cc);
       unscaled = λ no_place. absurd (cc);
       no_terms = λ no_place. absurd (cc);
@@ -135,8 +174,8 @@ pub finished_rows : (columns : List Column) (rows : List GivenRow) (objective : 
 finished_rows columns rows objective n made is e ok =
     subst (λ (k : ℕ). All (IsRow k) made) (sym e) (subst (λ (rs : List Row). All (IsRow (length columns)) rs) (sym ok.1) (scaled_are_rows (length columns) rows is.each_row ok.0))
 
-pub finished_program : (columns cs : List Column) (rows : List GivenRow) (objective : Option Objective) (made : List Row) (target : Target) → IsSystem columns rows objective → cs ≡ columns → (rows_fault rows ≡ None) × (made ≡ map scaled_row rows) → (objective_fault objective ≡ None) × (target ≡ scaled_target objective) → IsProgram cs made target
-finished_program columns cs rows objective made target is same ok made_target =
+pub finished_program : (columns cs : List Column) (rows : List GivenRow) (objective : Option Objective) (made : List Row) (target : Target) → IsSystem columns rows objective → cs ≡ columns → All HasSidesWithin cs → (rows_fault rows ≡ None) × (made ≡ map scaled_row rows) → (objective_fault objective ≡ None) × (target ≡ scaled_target objective) → IsProgram cs made target
+finished_program columns cs rows objective made target is same within ok made_target =
     let few : length made ≡ length rows = ap length ok.1 ∙ same_length rows in
     let e : length cs ≡ length columns = ap length same in
     let bound = is.few_columns in
@@ -145,6 +184,7 @@ finished_program columns cs rows objective made target is same ok made_target =
       few_columns = omega arith;
       few_rows = omega arith;
       each_column = subst (λ (xs : List Column). All IsColumn xs) (sym same) is.each_column;
+      sides_within = within;
       each_row = finished_rows columns rows objective (length cs) made is e ok;
       objective = subst (λ (k : ℕ). IsTarget k target) (sym e) (subst (IsTarget (length columns)) (sym made_target.1) (scaled_is_target (length columns) objective is.objective_is made_target.0));
     }

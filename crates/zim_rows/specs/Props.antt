@@ -6,7 +6,7 @@ use mathlib.Core.Bool.{Bool-set}
 use Rattle.zim_linear.specs.Forms.{Term, AreTermsFrom, AreColumns}
 use Rattle.zim_rows.specs.declared.rows.RowKind.{RowKind}
 use Rattle.zim_rows.specs.declared.rows.RowKind.TheVariants.{One, Range}
-use Rattle.zim_rows.specs.Program.{IsShortKind}
+use Rattle.zim_rows.specs.Program.{IsShortKind, IsKindWithin}
 
 pub AreTermsFrom-prop : (first : ℕ) (terms : List Term) → IsProp (AreTermsFrom first terms)
 AreTermsFrom-prop first [] = Unit-prop
@@ -20,4 +20,8 @@ pub IsShortKind-prop : (kind : RowKind) → IsProp (IsShortKind kind)
 IsShortKind-prop (One sense right) = Bool-set _ _
 IsShortKind-prop (Range low high) = hlevel std.props
 
-pub ruleset props = (std.props, AreTermsFrom-prop, AreColumns-prop, IsShortKind-prop)
+pub IsKindWithin-prop : (kind : RowKind) → IsProp (IsKindWithin kind)
+IsKindWithin-prop (One sense right) = Bool-set _ _
+IsKindWithin-prop (Range low high) = hlevel std.props
+
+pub ruleset props = (std.props, AreTermsFrom-prop, AreColumns-prop, IsShortKind-prop, IsKindWithin-prop)

@@ -1,10 +1,11 @@
-ghost use Rattle.std.specs.Prelude.{◌≡◌, ◌<◌, ◌≤◌, ◌↔◌, List, [], ◌∷◌, ◌++◌, length, map, slice_index_or, false, IsTrue, Option, Some, IfOk, OnOk, OnErr};
+ghost use Rattle.std.specs.Prelude.{◌≡◌, ◌<◌, ◌≤◌, ◌↔◌, List, [], ◌∷◌, ◌++◌, length, map, All, slice_index_or, false, IsTrue, Option, Some, IfSome, IfOk, OnOk, OnErr};
 ghost use Rattle.zim_rational.specs.Rational.{Rational, IsBelow, times, whole};
 ghost use Rattle.zim_linear.specs.Forms.{AreTerms, AreColumns};
 ghost use Rattle.zim_linear.specs.Ends.{IsUncrossed};
 ghost use Rattle.zim_rows.specs.System as exact;
 ghost use Rattle.zim_rows.specs.System.{empty_system, column_of, column_at, row_of, with_objective, AreWholeSides, IsKind, ColumnAnswer, RowAdded};
 ghost use Rattle.zim_rows.specs.Points.{IsSystemPoint, IsPoint, system_objective_at, objective_at};
+ghost use Rattle.zim_rows.specs.Program.{IsWithin, HasSidesWithin};
 ghost use Rattle.zim_rows.specs.Scaled.{FinishAnswer};
 ghost use Rattle.zim_rows.specs.Covered.{IsCovered, written_program};
 ghost use Rattle.zim_rows.specs.Finished.{program_of, answered};
@@ -244,15 +245,47 @@ fn mark_at(marks: &[bool], i: usize) -> bool
 // The columns of marks and sides.
 fn all_columns(alloc: Global, marks: &[bool], sides: &[Sides]) -> Result<Sequence<Column>, Memory>
     requires { length marks.now ≡ length sides.now }
-    ensures { IfOk result (λ columns. columns ≡ exact.columns_of marks.now sides.now) }
+    ensures columns { IfOk result (λ columns. columns ≡ exact.columns_of marks.now sides.now) }
+    ensures within { IfOk result (λ columns. All HasSidesWithin columns) }
 {
     let mut columns = Vec::with_capacity(alloc, sides.len())?;
     for (i, sides) in sides.iter().enumerate() {
         let integer = mark_at(marks, i);
-        columns.push(Column {
-            integer,
-            sides: *sides,
-        })?;
+        columns.push(column_of(integer, sides))?;
     }
     Ok(Sequence::from_vec(columns))
+}
+
+// The column with this mark and these sides, whose numbers are within the limit as all are that the code holds.
+fn column_of(integer: bool, sides: &Sides) -> Column
+    ensures column { result ≡ exact.column_of integer sides.now }
+    ensures within { HasSidesWithin result }
+{
+    Column {
+        integer,
+        sides: Sides {
+            low: side_within(&sides.low),
+            high: side_within(&sides.high),
+        },
+    }
+}
+
+// The side, which is within the limit if there is one.
+fn side_within(side: &Option<Fraction>) -> Option<Fraction>
+    ensures same { result ≡ side.now }
+    ensures within { IfSome result IsWithin }
+{
+    match side {
+        None => None,
+        Some(number) => Some(number_within(*number)),
+    }
+}
+
+// The number, whose numerator and denominator tell that it is within the limit.
+fn number_within(number: Fraction) -> Fraction
+    ensures same { result ≡ number }
+    ensures within { IsWithin result }
+{
+    let _parts = (number.numer(), number.denom());
+    number
 }

@@ -1,6 +1,6 @@
 mod Examples
 mod Lines
-pub mod TextSays
+pub mod TextLaws
 mod Places
 pub mod Cut
-pub mod Whole
+pub mod WholeLaws

@@ -1,5 +1,6 @@
 ghost use Rattle.std.specs.Prelude.{◌≡◌, ℕ, List, Some};
 ghost use Rattle.zim_gate.specs.Counts.{IsFrontOf};
+ghost use Rattle.zim_table.specs.Correct.{TextsSayNames};
 ghost use Rattle.zim_table.specs.Ended.{EndsInEnd};
 ghost use Rattle.zim_table.specs.Reader.{Table, table};
 
@@ -9,4 +10,12 @@ ghost use Rattle.zim_table.specs.Reader.{Table, table};
 /// The call does nothing.
 pub fn an_ended_table_is_whole()
     ensures { (text front : List ℕ) (said : Table) → table text ≡ Some said → IsFrontOf front text → EndsInEnd front → front ≡ text }
+{}
+
+/// The law that the text of each linear program with the names of its variables and statements is the table of them: which
+/// column of the files stands for which variable, and the factors of the objective.
+///
+/// The call does nothing.
+pub fn texts_say_names()
+    ensures { TextsSayNames }
 {}

@@ -4,8 +4,7 @@ ghost use Rattle.std.specs.List.Sorted.{IsNonDecreasingBy};
 ghost use Rattle.zim_gate.specs.Folder.{Puts};
 ghost use Rattle.zim_gate.specs.Pen.{Writes};
 ghost use Rattle.zim_rows.specs.Finished.{program_of};
-ghost use Rattle.zim_table.specs.Correct.{IsStatement, CanBeListed, table_said};
-ghost use Rattle.zim_table.specs.Reader.{table};
+ghost use Rattle.zim_table.specs.Correct.{IsStatement, CanBeListed};
 ghost use Rattle.zim_table.specs.Text as text;
 ghost use Rattle.zim_table.specs.Text.{statement_of, statement_name, factor_text, aim_text, objective_text, variable_text, offset_text, row_line, row_text, table_text};
 
@@ -20,9 +19,9 @@ pub type PutFault = Failed;
 /// Puts the table of a system to the file that is begun, and leaves it begun. `vars` has the name of each column's
 /// variable.
 ///
-/// After `Failed` a prefix of the text was put. The text is the table of the columns with their variables' names, in
-/// order, and of the factors that the objective has in the two files: its own in the LP file, and in the MPS file its
-/// own, or the negative of it where the system maximises.
+/// After `Failed` a prefix of the text was put. By [`texts_say_names`](crate::texts_say_names) the text is the table of
+/// the columns with their variables' names, in order, and of the factors that the objective has in the two files: its own in the
+/// LP file, and in the MPS file its own, or the negative of it where the system maximises.
 pub fn write<F: Folder>(
     system: &Finished,
     vars: &[Bytes],
@@ -31,8 +30,7 @@ pub fn write<F: Folder>(
 ) -> Result<(), PutFault>
     requires begun { IsSome (F.state folder.old).begun }
     requires listed { CanBeListed (program_of system.now) vars.now names.now }
-    ensures text { Puts (F.state folder.old) (F.state folder.new) (table_text (program_of system.now) vars.now names.now) result }
-    ensures says { table (table_text (program_of system.now) vars.now names.now) ≡ Some (table_said (program_of system.now) vars.now) }
+    ensures { Puts (F.state folder.old) (F.state folder.new) (table_text (program_of system.now) vars.now names.now) result }
 {
     let mut pen = Pen::new(folder);
     let factor = system.target.factor;

@@ -1,20 +1,16 @@
 -- One more.
 use Rattle.std.proofs.Common.{ℕ, List, subst}
-use Rattle.std.proofs.lemmas.List.Elements.{All-nil}
 use Rattle.zim_gate.specs.Pen.{Writes}
 use Rattle.zim_gate.proofs.PenLaws.{◌▸◌, Writes-nothing}
-use Rattle.zim_lp.specs.Within.{IsColumnWithin}
-use Rattle.zim_lp.proofs.Pieces.{numbered_bound, numbered_step, all_step}
+use Rattle.zim_lp.proofs.Pieces.{numbered_bound, numbered_step}
 use Rattle.zim_lp.proofs.columns.put_bounds.Goals as goal
 
 pub loop-index-init : goal.loop-index-init
-loop-index-init g c = (Writes-nothing c.args.pen.now, All-nil IsColumnWithin)
+loop-index-init g c = Writes-nothing c.args.pen.now
 
 pub loop-index-preserved : goal.loop-index-preserved
-loop-index-preserved g c = (
-  subst
-      (λ (t : List ℕ). Writes g.F.Folder.state c.args.pen.now c.put_bound.new.pen t)
-      (numbered_step numbered_bound 1 c.args.columns.now c.loop-index.index c.index-columns-index.result c.loop-index-test.true c.index-columns-index.is)
-      (c.loop-index.invariant.0 ▸ c.put_bound.ensures.text),
-  all_step IsColumnWithin c.args.columns.now c.loop-index.index c.index-columns-index.result c.loop-index-test.true c.index-columns-index.is c.loop-index.invariant.1 c.put_bound.ensures.within,
-)
+loop-index-preserved g c =
+    subst
+    (λ (t : List ℕ). Writes g.F.Folder.state c.args.pen.now c.put_bound.new.pen t)
+    (numbered_step numbered_bound 1 c.args.columns.now c.loop-index.index c.index-columns-index.result c.loop-index-test.true c.index-columns-index.is)
+    (c.loop-index.invariant ▸ c.put_bound.ensures)

@@ -1,12 +1,10 @@
--- What was put so far, and that its numbers are within the limit.
-use Rattle.std.specs.Prelude.{take, flat_map, All}
+-- What was put so far.
+use Rattle.std.specs.Prelude.{take, flat_map}
 use Rattle.std.specs.List.{enumerate_from}
 use Rattle.zim_gate.specs.Pen.{Writes}
-use Rattle.zim_lp.specs.Within.{IsColumnWithin}
 use Rattle.zim_lp.proofs.Pieces.{numbered_bound}
 use Rattle.zim_lp.proofs.columns.put_bounds.Given as goal
 
 abbrev pub invariant-loop-index : goal.invariant-loop-index
 invariant-loop-index g l =
     Writes g.F.Folder.state l.initial.pen l.pen (flat_map numbered_bound (enumerate_from 1 (take l.index l.columns)))
-    × All IsColumnWithin (take l.index l.columns)

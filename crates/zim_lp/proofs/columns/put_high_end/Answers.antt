@@ -2,5 +2,5 @@
 use Rattle.zim_gate.proofs.PenLaws.{◌▸◌}
 use Rattle.zim_lp.proofs.columns.put_high_end.Goals as goal
 
-pub returns-clause-text : goal.returns-clause-text
-returns-clause-text g c = c.put.ensures ▸ c.put_column_name.ensures ▸ c.put-2.ensures ▸ c.put_number.ensures.text ▸ c.put-3.ensures
+pub returns : goal.returns
+returns g c = c.put.ensures ▸ c.put_column_name.ensures ▸ c.put-2.ensures ▸ c.put_number.ensures ▸ c.put-3.ensures

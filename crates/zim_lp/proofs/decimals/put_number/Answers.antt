@@ -7,10 +7,10 @@ use Rattle.zim_lp.specs.Text.{short_number}
 use Rattle.zim_lp.proofs.Pieces.{signed_text}
 use Rattle.zim_lp.proofs.decimals.put_number.Goals as goal
 
-pub returns-clause-text : goal.returns-clause-text
-returns-clause-text g c =
+pub returns : goal.returns
+returns g c =
     subst
     (λ (t : List ℕ). Writes g.F.Folder.state c.args.pen.now c.put_magnitude.new.pen t)
-    (ap (λ sign. sign ++ (short_number c.args.number).absolute) (c.minus.ensures ∙ ap (λ b. cond b (codes "-") []) c.is_negative.ensures.value)
+    (ap (λ sign. sign ++ (short_number c.args.number).absolute) (c.minus.ensures ∙ ap (λ b. cond b (codes "-") []) c.is_negative.ensures)
     ∙ signed_text (int_lt c.args.number.numer (pos 0)) (short_number c.args.number).absolute)
     (c.put.ensures ▸ c.put_magnitude.ensures)

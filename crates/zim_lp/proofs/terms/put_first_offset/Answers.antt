@@ -2,5 +2,5 @@
 use Rattle.zim_gate.proofs.PenLaws.{◌▸◌}
 use Rattle.zim_lp.proofs.terms.put_first_offset.Goals as goal
 
-pub returns-clause-text : goal.returns-clause-text
-returns-clause-text g c = c.put_number.ensures.text ▸ c.put.ensures
+pub returns : goal.returns
+returns g c = c.put_number.ensures ▸ c.put.ensures

@@ -2,8 +2,8 @@
 use Rattle.zim_gate.proofs.PenLaws.{◌▸◌}
 use Rattle.zim_lp.proofs.terms.put_further_offset.Goals as goal
 
-pub returns-clause-text : goal.returns-clause-text
-returns-clause-text g c =
+pub returns : goal.returns
+returns g c =
     simp
-    (c.break_before.ensures, c.sign.ensures, c.is_negative.ensures.value)
+    (c.break_before.ensures, c.sign.ensures, c.is_negative.ensures)
     at (c.put.ensures ▸ c.put-2.ensures ▸ c.put_magnitude.ensures ▸ c.put-3.ensures)

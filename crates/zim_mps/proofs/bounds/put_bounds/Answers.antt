@@ -3,16 +3,12 @@ use Rattle.std.proofs.Common.{List, ℕ, subst}
 use Rattle.zim_gate.specs.Pen.{Writes}
 use Rattle.zim_gate.proofs.PenLaws.{◌▸◌}
 use Rattle.zim_rows.specs.Finished.{program_of}
-use Rattle.zim_mps.proofs.Pieces.{bounds_joined, sides_joined}
+use Rattle.zim_mps.proofs.Pieces.{bounds_joined}
 use Rattle.zim_mps.proofs.bounds.put_bounds.Goals as goal
 
-pub returns-clause-text : goal.returns-clause-text
-returns-clause-text g c =
+pub returns : goal.returns
+returns g c =
     subst
     (λ (t : List ℕ). Writes g.F.Folder.state c.args.pen.now c.put_offset_bounds.new.pen t)
     (bounds_joined (program_of c.args.system.now))
-    (simp c.as_slice.ensures at (c.put_numbered_bounds.ensures.text ▸ c.put_offset_bounds.ensures.text))
-
-pub returns-clause-reads : goal.returns-clause-reads
-returns-clause-reads g c =
-    sides_joined (program_of c.args.system.now) (simp c.as_slice.ensures at c.put_numbered_bounds.ensures.reads) c.put_offset_bounds.ensures.reads
+    (simp c.as_slice.ensures at (c.put_numbered_bounds.ensures ▸ c.put_offset_bounds.ensures))

@@ -2,6 +2,6 @@
 use Rattle.zim_gate.proofs.PenLaws.{◌▸◌}
 use Rattle.zim_mps.proofs.bounds.put_end.Goals as goal
 
-pub returns-clause-text : goal.returns-clause-text
-returns-clause-text g c =
-    c.put.ensures ▸ c.put-2.ensures ▸ c.put-3.ensures ▸ c.put_name.ensures ▸ c.put-4.ensures ▸ c.put_number.ensures.text ▸ c.put-5.ensures
+pub returns : goal.returns
+returns g c =
+    c.put.ensures ▸ c.put-2.ensures ▸ c.put-3.ensures ▸ c.put_name.ensures ▸ c.put-4.ensures ▸ c.put_number.ensures ▸ c.put-5.ensures

@@ -1,12 +1,10 @@
--- What was put so far, and that its numbers read back.
-use Rattle.std.specs.Prelude.{take, flat_map, All}
+-- What was put so far.
+use Rattle.std.specs.Prelude.{take, flat_map}
 use Rattle.std.specs.List.{enumerate_from}
 use Rattle.zim_gate.specs.Pen.{Writes}
-use Rattle.zim_mps.specs.Puts.{column_sides_text, HasReadableColumnSides}
+use Rattle.zim_mps.specs.Puts.{column_sides_text}
 use Rattle.zim_mps.proofs.bounds.put_numbered_bounds.Given as goal
 
 abbrev pub invariant-loop-index : goal.invariant-loop-index
-invariant-loop-index g l = record {
-  text : Writes g.F.Folder.state l.initial.pen l.pen (flat_map column_sides_text (enumerate_from 1 (take l.index l.columns)));
-  reads : All HasReadableColumnSides (take l.index l.columns);
-}
+invariant-loop-index g l =
+    Writes g.F.Folder.state l.initial.pen l.pen (flat_map column_sides_text (enumerate_from 1 (take l.index l.columns)))

@@ -14,8 +14,8 @@ put_sides-requires-clause-low g c = short_one _ c.one.ensures
 pub put_sides-requires-clause-high : goal.put_sides-requires-clause-high
 put_sides-requires-clause-high g c = short_one _ c.one-then-has_offset.ensures
 
-pub returns-else-has_offset-clause-text : goal.returns-else-has_offset-clause-text
-returns-else-has_offset-clause-text g c =
+pub returns-else-has_offset : goal.returns-else-has_offset
+returns-else-has_offset g c =
     subst
     (λ (b : Bool). Writes g.F.Folder.state c.args.pen.now c.args.pen.now (flat_map bound_text (if b then offset_column (program_of c.args.system.now) ∷ [] else [])))
     (sym c.if-has_offset.false ∙ c.has_offset.ensures)

@@ -4,22 +4,16 @@ use Rattle.zim_gate.specs.Pen.{Writes}
 use Rattle.zim_gate.proofs.PenLaws.{◌▸◌}
 use Rattle.zim_rows.specs.Finished.{program_of}
 use Rattle.zim_mps.specs.Puts.{offset_text}
-use Rattle.zim_mps.specs.Readable.{IsReadableColumn}
-use Rattle.zim_mps.specs.Text.{numbered_columns, offset_columns, columns_front, marker_text}
+use Rattle.zim_mps.specs.Text.{numbered_columns, columns_front, marker_text}
 use Rattle.zim_mps.proofs.Pieces.{columns_joined}
-use Rattle.zim_mps.proofs.Said.{all_append}
 use Rattle.zim_mps.proofs.columns.put_columns.Goals as goal
 
-pub returns-clause-text : goal.returns-clause-text
-returns-clause-text g c =
+pub returns : goal.returns
+returns g c =
     subst
     (λ (t : List ℕ). Writes g.F.Folder.state c.args.pen.now c.put_offset.new.pen t)
     (columns_joined (program_of c.args.system.now))
     (subst
     (λ (last : Bool). Writes g.F.Folder.state c.args.pen.now c.put_offset.new.pen (columns_front false (numbered_columns (program_of c.args.system.now)) ++ (marker_text last false ++ offset_text (program_of c.args.system.now))))
     c.put_numbered_columns-last.ensures.mark
-    (c.put_numbered_columns-last.ensures.text ▸ c.put_marker.ensures ▸ c.put_offset.ensures.text))
-
-pub returns-clause-reads : goal.returns-clause-reads
-returns-clause-reads g c =
-    all_append IsReadableColumn (numbered_columns (program_of c.args.system.now)) (offset_columns (program_of c.args.system.now)) c.put_numbered_columns-last.ensures.reads c.put_offset.ensures.reads
+    (c.put_numbered_columns-last.ensures.text ▸ c.put_marker.ensures ▸ c.put_offset.ensures))

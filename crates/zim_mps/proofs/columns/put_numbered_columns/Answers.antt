@@ -1,7 +1,6 @@
 -- One column more.
 use Rattle.std.proofs.Common.{◌≡◌, ℕ, ◌+◌, ◌<◌, List, length, get_or, sym, subst, ap, ◌∙◌, arith, refl}
 use Rattle.std.specs.Prelude.{All}
-use Rattle.std.proofs.lemmas.List.Elements.{recursion_from_All}
 use Rattle.zim_gate.specs.Pen.{Writes}
 use Rattle.zim_gate.proofs.PenLaws.{◌▸◌, Writes-nothing}
 use Rattle.zim_linear.specs.Forms.{Term}
@@ -10,10 +9,9 @@ use Rattle.zim_rows.specs.Entries.{entries_of_column}
 use Rattle.zim_rows.specs.Finished.{program_of}
 use Rattle.zim_rows.specs.Program.{LinearProgram, IsShortTerm}
 use Rattle.zim_mps.specs.Puts.{AreCosts}
-use Rattle.zim_mps.specs.Readable.{IsReadable, IsReadableTerm}
 use Rattle.zim_mps.specs.Text.{coefficient_of, minimised, cost_of}
 use Rattle.zim_mps.proofs.CostLemmas.{AreCosts-terms}
-use Rattle.zim_mps.proofs.Pieces.{short_entries, entries_count, entries_at, column_put, mark_more, reads_more}
+use Rattle.zim_mps.proofs.Pieces.{short_entries, entries_count, entries_at, column_put, mark_more}
 use Rattle.zim_mps.proofs.columns.put_numbered_columns.Goals as goal
 
 pub loop-index-init : goal.loop-index-init
@@ -23,7 +21,6 @@ loop-index-init g c =
     record {
       text = Writes-nothing c.args.pen.now;
       mark = refl;
-      reads = tt;
       costs = subst (AreCosts 1) (sym c.as_slice-costs.ensures) (AreCosts-terms (length p.columns) p.target.terms objective.terms objective.columns objective.short);
       same = λ j h. ap (λ (ts : List Term). coefficient_of ts j) c.as_slice-costs.ensures;
     }
@@ -61,13 +58,8 @@ loop-index-preserved g c =
           subst
           (λ (t : List ℕ). Writes g.F.Folder.state c.args.pen.now c.put_column.new.pen t)
           (column_put p i d c.loop-index.before c.minimised_cost.result c.as_slice.result.now within here c.loop-index.invariant.mark cost entries)
-          (c.loop-index.invariant.text ▸ c.put_marker.ensures ▸ c.put_column.ensures.text);
+          (c.loop-index.invariant.text ▸ c.put_marker.ensures ▸ c.put_column.ensures);
       mark = ap (λ (column : Column). column.integer) here ∙ sym (mark_more p i d within);
-      reads =
-          reads_more p i d within c.loop-index.invariant.reads (record {
-            cost = subst IsReadable cost c.put_column.ensures.cost_reads;
-            entries = recursion_from_All IsReadableTerm (entries_of_column p.rows (i + 1)) (subst (All IsReadableTerm) entries c.put_column.ensures.entries_read);
-          });
       costs = c.split_cost-cost.ensures.behind;
       same = λ j h. c.split_cost-cost.ensures.same j h ∙ c.loop-index.invariant.same j (omega arith);
     }

@@ -5,22 +5,18 @@ use Rattle.std.specs.List.{enumerate_from}
 use Rattle.zim_gate.specs.Pen.{Writes}
 use Rattle.zim_gate.proofs.PenLaws.{◌▸◌, Writes-nothing}
 use Rattle.zim_mps.specs.Text.{range_text}
-use Rattle.zim_mps.proofs.Pieces.{no_ranges}
 use Rattle.zim_mps.proofs.rows.put_ranges.Goals as goal
 
-pub returns-then-has_range-clause-text : goal.returns-then-has_range-clause-text
-returns-then-has_range-clause-text g c =
+pub returns-then-has_range : goal.returns-then-has_range
+returns-then-has_range g c =
     subst
     (λ (b : Bool). Writes g.F.Folder.state c.args.pen.now c.put_range_lines.new.pen (if b then codes "RANGES\n" ++ flat_map range_text (enumerate_from 1 c.args.rows.now) else []))
     (sym c.if-has_range.true ∙ c.has_range.ensures)
-    (c.put.ensures ▸ c.put_range_lines.ensures.text)
+    (c.put.ensures ▸ c.put_range_lines.ensures)
 
-pub returns-else-has_range-clause-text : goal.returns-else-has_range-clause-text
-returns-else-has_range-clause-text g c =
+pub returns-else-has_range : goal.returns-else-has_range
+returns-else-has_range g c =
     subst
     (λ (b : Bool). Writes g.F.Folder.state c.args.pen.now c.args.pen.now (if b then codes "RANGES\n" ++ flat_map range_text (enumerate_from 1 c.args.rows.now) else []))
     (sym c.if-has_range.false ∙ c.has_range.ensures)
     (Writes-nothing c.args.pen.now)
-
-pub returns-else-has_range-clause-reads : goal.returns-else-has_range-clause-reads
-returns-else-has_range-clause-reads g c = no_ranges c.args.rows.now (sym c.has_range.ensures ∙ c.if-has_range.false)

@@ -2,6 +2,6 @@
 use Rattle.zim_gate.proofs.PenLaws.{◌▸◌}
 use Rattle.zim_mps.proofs.rows.put_right.Goals as goal
 
-pub returns-clause-text : goal.returns-clause-text
-returns-clause-text g c =
-    simp c.right_of.ensures.value at (c.put.ensures ▸ c.put_row_name.ensures ▸ c.put-2.ensures ▸ c.put_number.ensures.text ▸ c.put-3.ensures)
+pub returns : goal.returns
+returns g c =
+    simp c.right_of.ensures.value at (c.put.ensures ▸ c.put_row_name.ensures ▸ c.put-2.ensures ▸ c.put_number.ensures ▸ c.put-3.ensures)

@@ -1,13 +1,10 @@
--- What was put so far, and that its numbers read back.
-use Rattle.std.specs.Prelude.{take, flat_map, All}
+-- What was put so far.
+use Rattle.std.specs.Prelude.{take, flat_map}
 use Rattle.std.specs.List.{enumerate_from}
 use Rattle.zim_gate.specs.Pen.{Writes}
 use Rattle.zim_mps.specs.Text.{right_text}
-use Rattle.zim_mps.specs.Readable.{HasReadableRight}
 use Rattle.zim_mps.proofs.rows.put_rights.Given as goal
 
 abbrev pub invariant-loop-index : goal.invariant-loop-index
-invariant-loop-index g l = record {
-  text : Writes g.F.Folder.state l.initial.pen l.pen (flat_map right_text (enumerate_from 1 (take l.index l.rows)));
-  reads : All HasReadableRight (take l.index l.rows);
-}
+invariant-loop-index g l =
+    Writes g.F.Folder.state l.initial.pen l.pen (flat_map right_text (enumerate_from 1 (take l.index l.rows)))

@@ -1,4 +1,4 @@
-use Rattle.zim_table.proofs.Whole.{front_is_whole}
+use Rattle.zim_table.proofs.WholeLaws.{front_is_whole}
 use Rattle.zim_table.proofs.laws.an_ended_table_is_whole.Goals as goal
 
 -- src/laws.rt:10:1

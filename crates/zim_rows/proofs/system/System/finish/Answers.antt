@@ -13,21 +13,21 @@ list_entries-requires-clause-rows c =
     _
     _
     _
-    (finishing _ _ _ _ _ _ _ _ _ _ _ c.self.invariant c.self.view_is c.as_slice.ensures c.in_ok-rows.ensures c.in_ok-target.ensures c.as_slice-2.ensures.value c.as_slice-3.ensures c.in_ok-columns.ensures)
+    (finishing _ _ _ _ _ _ _ _ _ _ _ c.self.invariant c.self.view_is c.as_slice.ensures c.in_ok-rows.ensures c.in_ok-target.ensures c.as_slice-2.ensures.value c.as_slice-3.ensures c.in_ok-columns.ensures.columns c.in_ok-columns.ensures.within)
     c.len.ensures
     c.as_slice-4.ensures
 
 pub invariant_of-result : goal.invariant_of-result
 invariant_of-result c = record {
-  program = program_is _ _ _ _ (finishing _ _ _ _ _ _ _ _ _ _ _ c.self.invariant c.self.view_is c.as_slice.ensures c.in_ok-rows.ensures c.in_ok-target.ensures c.as_slice-2.ensures.value c.as_slice-3.ensures c.in_ok-columns.ensures);
+  program = program_is _ _ _ _ (finishing _ _ _ _ _ _ _ _ _ _ _ c.self.invariant c.self.view_is c.as_slice.ensures c.in_ok-rows.ensures c.in_ok-target.ensures c.as_slice-2.ensures.value c.as_slice-3.ensures c.in_ok-columns.ensures.columns c.in_ok-columns.ensures.within);
   agrees = c.in_ok-entries.ensures ∙ ap₂ entries_by_column c.len.ensures c.as_slice-4.ensures;
 }
 
 pub returns-clause-points : goal.returns-clause-points
-returns-clause-points c = points_are _ _ _ _ (finishing _ _ _ _ _ _ _ _ _ _ _ c.self.invariant c.self.view_is c.as_slice.ensures c.in_ok-rows.ensures c.in_ok-target.ensures c.as_slice-2.ensures.value c.as_slice-3.ensures c.in_ok-columns.ensures)
+returns-clause-points c = points_are _ _ _ _ (finishing _ _ _ _ _ _ _ _ _ _ _ c.self.invariant c.self.view_is c.as_slice.ensures c.in_ok-rows.ensures c.in_ok-target.ensures c.as_slice-2.ensures.value c.as_slice-3.ensures c.in_ok-columns.ensures.columns c.in_ok-columns.ensures.within)
 
 pub returns-clause-objective : goal.returns-clause-objective
-returns-clause-objective c = objective_is _ _ _ _ (finishing _ _ _ _ _ _ _ _ _ _ _ c.self.invariant c.self.view_is c.as_slice.ensures c.in_ok-rows.ensures c.in_ok-target.ensures c.as_slice-2.ensures.value c.as_slice-3.ensures c.in_ok-columns.ensures)
+returns-clause-objective c = objective_is _ _ _ _ (finishing _ _ _ _ _ _ _ _ _ _ _ c.self.invariant c.self.view_is c.as_slice.ensures c.in_ok-rows.ensures c.in_ok-target.ensures c.as_slice-2.ensures.value c.as_slice-3.ensures c.in_ok-columns.ensures.columns c.in_ok-columns.ensures.within)
 
 pub returns-clause-covered : goal.returns-clause-covered
-returns-clause-covered c = covered_are _ _ _ _ (finishing _ _ _ _ _ _ _ _ _ _ _ c.self.invariant c.self.view_is c.as_slice.ensures c.in_ok-rows.ensures c.in_ok-target.ensures c.as_slice-2.ensures.value c.as_slice-3.ensures c.in_ok-columns.ensures)
+returns-clause-covered c = covered_are _ _ _ _ (finishing _ _ _ _ _ _ _ _ _ _ _ c.self.invariant c.self.view_is c.as_slice.ensures c.in_ok-rows.ensures c.in_ok-target.ensures c.as_slice-2.ensures.value c.as_slice-3.ensures c.in_ok-columns.ensures.columns c.in_ok-columns.ensures.within)

@@ -13,13 +13,12 @@ use Rattle.zim_rows.specs.declared.rows.Row.{Row}
 use Rattle.zim_rows.specs.declared.rows.RowKind.{RowKind}
 use Rattle.zim_rows.specs.declared.rows.RowKind.TheVariants.{One, Range}
 use Rattle.zim_rows.specs.declared.rows.Sense.TheVariants.{AtLeast, AtMost, Equal}
-use Rattle.zim_rows.specs.Program.{LinearProgram, IsProgram}
+use Rattle.zim_rows.specs.Program.{LinearProgram}
 use Rattle.zim_rows.specs.Named.{offset_name, has_offset, named_term, low_end, high_end, named_row, named_objective, named_system}
-use Rattle.zim_rows.proofs.RepresentLemmas.{sum_at_both, represents_named}
+use Rattle.zim_rows.proofs.RepresentLaws.{sum_at_both, represents_named}
 use Rattle.zim_lp.specs.Program.{instance_of}
-use Rattle.zim_lp.specs.Text.{first_name, written_file, lp_text}
-use Rattle.zim_lp.specs.Within.{IsProgramWithin}
-use Rattle.zim_lp.specs.Correct.{SaysProgram}
+use Rattle.zim_lp.specs.Text.{first_name, written_file}
+use Rattle.zim_lp.specs.Correct.{TextsSayPrograms}
 use Rattle.zim_lp.proofs.Readable.{IsReadableFile}
 use Rattle.zim_lp.proofs.File.{program_said}
 use Rattle.zim_lp.proofs.Meaning.{says_said, file_instance}
@@ -110,12 +109,12 @@ says_named i p says = record {
     same_rows : (point : Point) → (AllByRecursion (KeepsRow point) (flat_map (file_row (length p.columns)) p.rows) ↔ AllByRecursion (KeepsRow point) (map named_row p.rows)) → AllByRecursion (KeepsRow point) i.rows ↔ AllByRecursion (KeepsRow point) (map named_row p.rows)
     same_rows point both = ((λ k. both.0 ((says.rows point).0 k)), (λ k. (says.rows point).1 (both.1 k)))
 
--- The text of a program says the program.
-pub text_says : (p : LinearProgram) → IsProgram p.columns p.rows p.target → IsProgramWithin p → SaysProgram (lp_text p) p
-text_says p is within =
-    let readable : IsReadableFile (written_file p) = program_readable p is within in
+-- The text of each program says it.
+pub text_says : TextsSayPrograms
+text_says p is =
+    let readable : IsReadableFile (written_file p) = program_readable p is in
     let i : Instance = instance_of (program_said (written_file p)) in
-    let says : Says i (named_system p) = says_named i p (subst (λ s. Says i s) (system_same p is within) (says_said (written_file p) readable)) in
+    let says : Says i (named_system p) = says_named i p (subst (λ s. Says i s) (system_same p is) (says_said (written_file p) readable)) in
     record {
       instance = i;
       read = file_instance (written_file p) readable;

@@ -1,4 +1,4 @@
--- Which texts of numbers read back: what a writer knows of the numbers that it has put.
+-- Which numbers have texts that read back.
 use Rattle.std.specs.Prelude.{◌≡◌, Option, Some, None, ⊤}
 use Rattle.std.specs.List.{AllByRecursion}
 use Rattle.zim_rational.specs.Rational.{Rational, minus}

@@ -28,7 +28,7 @@ use Rattle.zim_rows.specs.Covered.{written_program}
 use Rattle.zim_rows.specs.Points.{assigned, KeepsKind, KeepConstraints, constraint, IsPoint, objective_at}
 use Rattle.zim_rows.specs.Named.{column_name, offset_name, offset_column, has_offset, file_columns, named_term, named_objective, low_end, high_end, named_row, named_system, file_numbers}
 use Rattle.zim_rows.specs.Represents.{numbers_in_file, Represents}
-use Rattle.zim_rows.proofs.NamedLemmas.{columns_from, offset_columns, offset_numbers, file_columns_distinct, offset_found, columns_same, one_keeps, kept_length}
+use Rattle.zim_rows.proofs.NamedLaws.{columns_from, offset_columns, offset_numbers, file_columns_distinct, offset_found, columns_same, one_keeps, kept_length}
 
 -- sums over names are sums over the numbers in the file
 products_in_file : (n : ℕ) (point : Point) (terms : List Term) → AreColumns n terms → map (λ (t : instance.Term). times t.coefficient (number_at point t.name)) (map named_term terms) ≡ map (λ (t : Term). times t.1 (assigned (numbers_in_file n point) t.0)) terms

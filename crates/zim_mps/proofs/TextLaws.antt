@@ -1,4 +1,4 @@
--- The text of a program says the program, minimised, where the texts of its numbers read back.
+-- The text of a program says the program, minimised.
 use Rattle.std.proofs.Common.{◌≡◌, ◌+◌, ◌<◌, ◌^◌, ◌≤◌, true, false, List, ℕ, Some, length, map, refl, sym, ◌∙◌, ap, subst, arith}
 use Rattle.std.specs.Prelude.{codes, option_and_then}
 use Rattle.std.specs.List.{AllByRecursion}
@@ -8,13 +8,12 @@ use Rattle.zim_instance.specs.Instance.{Instance, KeepsRow}
 use Rattle.zim_instance.specs.System.{Says}
 use Rattle.zim_rows.specs.Program.{LinearProgram, IsProgram}
 use Rattle.zim_rows.specs.Named.{named_objective}
-use Rattle.zim_rows.proofs.NamedLemmas.{file_columns_distinct}
-use Rattle.zim_rows.proofs.RepresentLemmas.{represents_by, one_is_one, objective_in_file}
+use Rattle.zim_rows.proofs.NamedLaws.{file_columns_distinct}
+use Rattle.zim_rows.proofs.RepresentLaws.{represents_by, one_is_one, objective_in_file}
 use Rattle.zim_mps.specs.Program.{Program, is_consistent, is_free, names_of_rows, only_name, meaning, instance_of}
-use Rattle.zim_mps.specs.Text.{mps_text}
-use Rattle.zim_mps.specs.Readable.{IsReadableProgram}
-use Rattle.zim_mps.specs.Correct.{minimised_term, minimised_system, mps_factor, SaysMinimised}
+use Rattle.zim_mps.specs.Correct.{minimised_term, minimised_system, mps_factor, TextsSayPrograms}
 use Rattle.zim_mps.proofs.Said.{said}
+use Rattle.zim_mps.proofs.ProgramReads.{program_reads}
 use Rattle.zim_mps.proofs.Parsing.{text_read}
 use Rattle.zim_mps.proofs.Consistent.{consistent, one_free}
 use Rattle.zim_mps.proofs.Meaning.{rows_same}
@@ -43,15 +42,15 @@ says p is =
       maximises = refl;
     }
 
--- the text of a program says it
-pub text_says : (p : LinearProgram) → IsProgram p.columns p.rows p.target → IsReadableProgram p → SaysMinimised (mps_text p) p
-text_says p is reads =
+-- the text of each program says it
+pub text_says : TextsSayPrograms
+text_says p is =
     let i : Instance = instance_of (said p) (codes "obj") in
     let objective : List instance.Term = map (minimised_term p.target.maximize) (named_objective p) in
     record {
       instance = i;
       read =
-          ap (option_and_then meaning) (text_read p (few_columns p is) (few_rows p is) reads)
+          ap (option_and_then meaning) (text_read p (few_columns p is) (few_rows p is) (program_reads p is))
           ∙ meaning_by (said p) (codes "obj") (consistent p (few_columns p is) (few_rows p is) (file_columns_distinct p is)) (one_free p);
       says = says p is;
       represents =

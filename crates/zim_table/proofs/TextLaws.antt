@@ -19,7 +19,8 @@ use Rattle.zim_table.specs.Reader.{Pair, Line, Stage, stage_after, read_line, re
 use Rattle.zim_table.specs.Reader.Line.{Declared, Offset, RowOf, End}
 use Rattle.zim_table.specs.Reader.Stage.{Columns, Details, Rows}
 use Rattle.zim_table.specs.Text.{statement_of, statement_name, minimised_factor, factor_text, objective_text, variable_text, offset_text, place_in_statement, row_text, table_text}
-use Rattle.zim_table.specs.Correct.{IsStatement, CanBeListed, numbered_pair, table_said}
+use Rattle.zim_table.specs.Correct.{IsStatement, CanBeListed, numbered_pair, table_said, TextsSayNames}
+use Rattle.zim_table.proofs.Cut.{cut_said}
 use Rattle.zim_table.proofs.Lines.{Gives, Gives-nil, Gives-append, Gives-line, Gives-each}
 
 abbrev NumberedRow : Type 0
@@ -221,9 +222,8 @@ text_gives p variables names program is =
     let lp = Gives-append _ _ _ _ (factor_gives (codes "lp") p.target.factor (IsField-test (codes "lp") refl refl) within) mps in
     Gives-append (codes "zimplc table 1\n") _ ((codes "zimplc" ∷ codes "table" ∷ codes "1" ∷ []) ∷ []) _ (Gives-line (codes "zimplc table 1\n") (codes "zimplc") (codes "table" ∷ codes "1" ∷ []) refl (IsField-test (codes "zimplc") refl refl) (IsField-test (codes "table") refl refl, (IsField-test (codes "1") refl refl, tt))) lp
 
--- the text of a table is its table
-pub text_says : (p : LinearProgram) (variables : List (List ℕ)) (names : Names) → IsProgram p.columns p.rows p.target → CanBeListed p variables names → table (table_text p variables names) ≡ Some (table_said p variables)
-text_says p variables names program is =
+text_read : (p : LinearProgram) (variables : List (List ℕ)) (names : Names) → IsProgram p.columns p.rows p.target → CanBeListed p variables names → table (table_text p variables names) ≡ Some (table_said p variables)
+text_read p variables names program is =
     let within : unsigned_abs p.target.factor ≤ limit = program.objective.factor_within in
     let turned : unsigned_abs (minimised_factor p.target.maximize p.target.factor) ≤ limit = omega (arith, size_turned p.target.maximize p.target.factor) in
     ap read_table
@@ -236,3 +236,10 @@ text_says p variables names program is =
     (further_read p variables names program)
     (variables_ordered Columns (enumerate_from 1 variables) (has_offset p) (enumerate_from 1 p.rows) refl)
     (variables_pairs (enumerate_from 1 variables) (has_offset p) (enumerate_from 1 p.rows))
+
+-- the text of a table is its table
+pub text_says : TextsSayNames
+text_says p variables names program is = record {
+  read = text_read p variables names program is;
+  cut_is = λ point. cut_said p variables point is.one_each;
+}

@@ -1,0 +1,9 @@
+ghost use Rattle.zim_lp.specs.Correct.{TextsSayPrograms};
+
+/// The law that the text of each linear program, read in the LP format, says the program: its columns with the sides that are
+/// decimals of at most 15 places, its points, its objective and its aim.
+///
+/// The call does nothing.
+pub fn texts_say_programs()
+    ensures { TextsSayPrograms }
+{}

@@ -1,0 +1,9 @@
+ghost use Rattle.zim_mps.specs.Correct.{TextsSayPrograms};
+
+/// The law that the text of each linear program, read in the free MPS format, says the program, minimised: its columns with the
+/// sides that are decimals of at most 15 places, its points, and its objective, which is the negative where the program maximises.
+///
+/// The call does nothing.
+pub fn texts_say_programs()
+    ensures { TextsSayPrograms }
+{}
