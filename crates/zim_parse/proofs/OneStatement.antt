@@ -10,7 +10,7 @@ use Rattle.zim_tree.proofs.StatementDerivationSpelling.{statement-spelling}
 use Rattle.zim_tree.proofs.ReplacedStatements.{statement_replaced}
 use Rattle.zim_tree.specs.PlainStatement.{plain_statement}
 use Rattle.zim_parse.specs.StatementLaw.{OneStatement, ParserReadsStatements}
-use Rattle.zim_parse.proofs.OneTree.{plain_tokens, plain_of_tokens}
+use Rattle.zim_parse_expression.proofs.OneTreeLaws.{plain_tokens, plain_of_tokens}
 use Rattle.zim_parse.proofs.WholeStatement.{same_statement, statement_read}
 use Rattle.zim_parse.proofs.WholeSound.{statement_sound}
 

@@ -22,12 +22,13 @@ use Rattle.zim_tree.specs.Classes.{word_class}
 use Rattle.zim_tree.specs.Levels.{unary, sum, disjunction, placed}
 use Rattle.zim_tree.specs.Grammar.{ReadsList}
 use Rattle.zim_tree.specs.StatementGrammar.{word_at, ReadsGiven, ReadsRows, the_last_row, one_more_row, ReadsTable, a_table, ReadsSetSide, a_set, a_set_read, a_family, a_set_for_each, sets_listed, ReadsParSide, a_value, a_value_read, a_value_for_each, values_listed, values_in_table, values_read, the_default}
-use Rattle.zim_parse.specs.Parser.{Inner, Parsed, and_then, expect, arguments}
+use Rattle.zim_parse_expression.specs.Parser.{Inner, Parsed, and_then, expect, arguments}
 use Rattle.zim_scan.specs.Nesting.{is_left_paren}
-use Rattle.zim_parse.specs.StatementParser.{expect_token, is_bar, is_default, is_read, is_left_brace, row_of, rows_at, rows_of, table_of, begins_read, sees, set_read, set_value, is_family, family_word, family_of, set_side_of, entry_of, given_of, par_value, par_read, par_table, par_entries, par_default, par_read_alone, par_side_of}
-use Rattle.zim_parse.proofs.Beginnings.{no}
-use Rattle.zim_parse.proofs.Inversions.{then_parts, answer, Split, Got, concluded, prefixed, appended, single, infixed, enclosed, got_left_paren, got_right_brace, got_items}
-use Rattle.zim_parse.proofs.PrimarySound.{SoundInner, items_sound, arguments_sound}
+use Rattle.zim_parse_expression.specs.StatementTokens.{expect_token, is_bar, is_default, is_read, is_left_brace, begins_read, sees}
+use Rattle.zim_parse.specs.StatementParser.{row_of, rows_at, rows_of, table_of, set_read, set_value, is_family, family_word, family_of, set_side_of, entry_of, given_of, par_value, par_read, par_table, par_entries, par_default, par_read_alone, par_side_of}
+use Rattle.zim_parse_expression.proofs.BeginningLaws.{no}
+use Rattle.zim_parse_expression.proofs.InversionLaws.{then_parts, answer, Split, Got, concluded, prefixed, appended, single, infixed, enclosed, got_left_paren, got_right_brace, got_items}
+use Rattle.zim_parse_expression.proofs.PrimarySoundLaws.{SoundInner, items_sound, arguments_sound}
 use Rattle.zim_parse.proofs.StatementSound.{token_fixed, bar_back, default_back, left_brace_back, reading_sound, ReadsEntry, entry_sound, entries_of_commaed, given_sound}
 
 got_bar : (ts : List Placed) (p : Place) (rest : List Placed) → expect_token is_bar ts ≡ answer p rest → ts ≡ placed p (sign_token SBar) ∷ rest

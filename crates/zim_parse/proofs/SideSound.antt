@@ -7,11 +7,12 @@ use Rattle.zim_fault.specs.declared.signs.Sign.TheVariants.{SLeftBracket, SRight
 use Rattle.zim_tree.specs.declared.stmt.Bracket.{Bracket}
 use Rattle.zim_tree.specs.Levels.{sum, placed}
 use Rattle.zim_tree.specs.StatementGrammar.{ReadsBracket, a_bracket_loop, a_bracket_over, ReadsBrackets, no_bracket, a_bracket, ReadsSetBrackets, filled_or_none, empty_brackets}
-use Rattle.zim_parse.specs.Next.{Start, a_less, start_of, is_right_bracket}
-use Rattle.zim_parse.specs.Parser.{Inner, Parsed, expect}
-use Rattle.zim_parse.specs.StatementParser.{expect_token, is_left_bracket, is_bar, bracket_at, bracket_of, brackets_at, brackets_of, empty_or, set_brackets_at, set_brackets_of}
-use Rattle.zim_parse.proofs.Inversions.{then_parts, answer, Got, concluded, prefixed, single, enclosed, got_right_bracket, Sound}
-use Rattle.zim_parse.proofs.PrimarySound.{SoundInner, index_sound}
+use Rattle.zim_parse_expression.specs.Next.{Start, a_less, start_of, is_right_bracket}
+use Rattle.zim_parse_expression.specs.Parser.{Inner, Parsed, expect}
+use Rattle.zim_parse_expression.specs.StatementTokens.{expect_token, is_left_bracket, is_bar}
+use Rattle.zim_parse.specs.StatementParser.{bracket_at, bracket_of, brackets_at, brackets_of, empty_or, set_brackets_at, set_brackets_of}
+use Rattle.zim_parse_expression.proofs.InversionLaws.{then_parts, answer, Got, concluded, prefixed, single, enclosed, got_right_bracket, Sound}
+use Rattle.zim_parse_expression.proofs.PrimarySoundLaws.{SoundInner, index_sound}
 use Rattle.zim_parse.proofs.StatementSound.{token_fixed, bar_back, left_bracket_back}
 
 got_bar : (ts : List Placed) (p : Place) (rest : List Placed) → expect_token is_bar ts ≡ answer p rest → ts ≡ placed p (sign_token SBar) ∷ rest

@@ -13,12 +13,12 @@ use Rattle.zim_tree.specs.Trees.{angle_of}
 use Rattle.zim_tree.specs.Classes.{token_class}
 use Rattle.zim_tree.specs.Levels.{Level, primary, postfix, power, unary, product, big, loop, term, sum, comparison, negation, conjunction, disjunction, whole, placed, exclamations}
 use Rattle.zim_tree.specs.Grammar.{Reads, ReadsList, ReadsBody, a_number, a_text, a_truth, an_infinity, a_name, an_item, a_bare_call, a_call, a_function, a_projection, in_parentheses, in_braces, an_if, an_if_with_else, a_postfix, no_power, a_power, no_sign, a_sign, a_big, no_loop_sign, a_loop_sign, a_product, a_loop as a_looping_term, a_product_with_loop, a_chain, a_member, no_not, a_not as a_negation, no_forall, a_forall as a_for_all, a_tuple, the_last, one_more, the_last_tuple, one_more_tuple, an_index, an_index_with, nothing as no_body, the_members, the_tuples, the_choices, a_span, a_span_by}
-use Rattle.zim_parse.specs.Next.{Start, an_operand, a_signed, a_loop, a_signed_loop, a_less, a_forall, start_at, start_of, is_in, is_open}
-use Rattle.zim_parse.specs.Parser.{expect, tuple_of, parse}
-use Rattle.zim_parse.specs.StatementParser.{is_read, begins_read, sees}
-use Rattle.zim_parse.proofs.Beginnings.{no, is_plain, is_factor, is_bare_loop, is_term, is_joined, is_whole, allowed, begins}
-use Rattle.zim_parse.proofs.PrimarySteps.{tuple_reads}
-use Rattle.zim_parse.proofs.Completeness.{complete_list}
+use Rattle.zim_parse_expression.specs.Next.{Start, an_operand, a_signed, a_loop, a_signed_loop, a_less, a_forall, start_at, start_of, is_in, is_open}
+use Rattle.zim_parse_expression.specs.Parser.{expect, tuple_of, parse}
+use Rattle.zim_parse_expression.specs.StatementTokens.{is_read, begins_read, sees}
+use Rattle.zim_parse_expression.proofs.BeginningLaws.{no, is_plain, is_factor, is_bare_loop, is_term, is_joined, is_whole, allowed, begins}
+use Rattle.zim_parse_expression.proofs.PrimaryLaws.{tuple_reads}
+use Rattle.zim_parse_expression.proofs.CompletenessLaws.{complete_list}
 
 -- no expression begins with `read`
 

@@ -17,13 +17,14 @@ use Rattle.zim_tree.specs.Levels.{sum, placed}
 use Rattle.zim_tree.specs.Grammar.{a_tuple, an_index, an_index_with}
 use Rattle.zim_tree.specs.StatementGrammar.{word_at, ReadsEntries, the_last_entry, one_more_entry, a_reading, ReadsGiven, not_given, is_given, ReadsSetSide, a_set, a_set_read, a_family, a_set_for_each, sets_listed, ReadsParSide, a_value, a_value_read, a_value_for_each, values_listed, values_in_table, values_read, the_default, ReadsBracket, a_bracket_loop, a_bracket_over, ReadsBrackets, no_bracket, a_bracket, ReadsSetBrackets, filled_or_none, empty_brackets}
 use Rattle.zim_scan.specs.Nesting.{class_at}
-use Rattle.zim_parse.specs.Next.{looseness, bound, Start, a_less, start_at, start_of, is_right_bracket, is_comma}
-use Rattle.zim_parse.specs.Parser.{Inner, and_then, expect, parse}
-use Rattle.zim_parse.specs.StatementParser.{expect_token, is_left_bracket, is_bar, is_default, is_read, sees, set_side_of, par_side_of, bracket_at, bracket_of, brackets_of, set_brackets_of}
-use Rattle.zim_parse.proofs.Beginnings.{no, is_term, begins}
-use Rattle.zim_parse.proofs.ListSteps.{listed_items}
-use Rattle.zim_parse.proofs.PrimarySteps.{arguments_read}
-use Rattle.zim_parse.proofs.Completeness.{complete_list, complete_index_of}
+use Rattle.zim_parse_expression.specs.Next.{looseness, bound, Start, a_less, start_at, start_of, is_right_bracket, is_comma}
+use Rattle.zim_parse_expression.specs.Parser.{Inner, and_then, expect, parse}
+use Rattle.zim_parse_expression.specs.StatementTokens.{expect_token, is_left_bracket, is_bar, is_default, is_read, sees}
+use Rattle.zim_parse.specs.StatementParser.{set_side_of, par_side_of, bracket_at, bracket_of, brackets_of, set_brackets_of}
+use Rattle.zim_parse_expression.proofs.BeginningLaws.{no, is_term, begins}
+use Rattle.zim_parse_expression.proofs.ListLaws.{listed_items}
+use Rattle.zim_parse_expression.proofs.PrimaryLaws.{arguments_read}
+use Rattle.zim_parse_expression.proofs.CompletenessLaws.{complete_list, complete_index_of}
 use Rattle.zim_parse.proofs.StatementSteps.{option_next, part, reading_read, entries_listed, given_read, table_read}
 use Rattle.zim_parse.proofs.StatementBeginnings.{start_not_read, joined_is_whole, not_a_read}
 

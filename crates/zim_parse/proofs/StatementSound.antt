@@ -15,11 +15,12 @@ use Rattle.zim_tree.specs.declared.stmt.Reading.{Reading}
 use Rattle.zim_tree.specs.Levels.{sum, placed}
 use Rattle.zim_tree.specs.Grammar.{Reads, ReadsTuple}
 use Rattle.zim_tree.specs.StatementGrammar.{word_at, is_option, AtMostOnce, ReadsOptions, no_option, an_option, ReadsReading, a_reading, ReadsEntries, the_last_entry, one_more_entry, ReadsGiven, not_given, is_given}
-use Rattle.zim_parse.specs.Parser.{Inner, Parsed}
-use Rattle.zim_parse.specs.StatementParser.{expect_token, is_semicolon, is_assign, is_colon, is_left_bracket, is_left_brace, is_bar, is_read, is_as, is_default, is_priority, is_startval, option_in, option_or, options_of, each_once, reading_of, entry_of, given_at, given_of}
-use Rattle.zim_parse.proofs.Beginnings.{no}
-use Rattle.zim_parse.proofs.Inversions.{then_parts, answer, Got, concluded, prefixed, appended, infixed, Sound, Commaed, last_one, another}
-use Rattle.zim_parse.proofs.PrimarySound.{SoundInner, tuple_sound}
+use Rattle.zim_parse_expression.specs.Parser.{Inner, Parsed}
+use Rattle.zim_parse_expression.specs.StatementTokens.{expect_token, is_semicolon, is_assign, is_colon, is_left_bracket, is_left_brace, is_bar, is_read, is_as, is_default, is_priority, is_startval, option_in}
+use Rattle.zim_parse.specs.StatementParser.{option_or, options_of, each_once, reading_of, entry_of, given_at, given_of}
+use Rattle.zim_parse_expression.proofs.BeginningLaws.{no}
+use Rattle.zim_parse_expression.proofs.InversionLaws.{then_parts, answer, Got, concluded, prefixed, appended, infixed, Sound, Commaed, last_one, another}
+use Rattle.zim_parse_expression.proofs.PrimarySoundLaws.{SoundInner, tuple_sound}
 
 -- single tokens
 

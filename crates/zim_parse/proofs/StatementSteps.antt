@@ -16,13 +16,14 @@ use Rattle.zim_tree.specs.Classes.{word_class}
 use Rattle.zim_tree.specs.Levels.{Level, unary, sum, placed}
 use Rattle.zim_tree.specs.Grammar.{Reads, ReadsList, ReadsTuple, a_tuple}
 use Rattle.zim_tree.specs.StatementGrammar.{word_at, is_option, AtMostOnce, ReadsOptions, no_option, an_option, ReadsReading, a_reading, ReadsEntries, the_last_entry, one_more_entry, ReadsRows, the_last_row, one_more_row, ReadsTable, a_table, ReadsGiven, not_given, is_given}
-use Rattle.zim_parse.specs.Next.{looseness, bound}
-use Rattle.zim_parse.specs.Parser.{and_then, tuple_of, parse}
-use Rattle.zim_parse.specs.StatementParser.{expect_token, is_bar, option_in, options_of, each_once, reading_of, entry_of, given_of, row_of, rows_of, table_of}
-use Rattle.zim_parse.proofs.Beginnings.{no}
-use Rattle.zim_parse.proofs.ListSteps.{Listed, last_item, next_item, listed_items}
-use Rattle.zim_parse.proofs.PrimarySteps.{deeper, tuple_reads}
-use Rattle.zim_parse.proofs.Completeness.{complete, complete_list}
+use Rattle.zim_parse_expression.specs.Next.{looseness, bound}
+use Rattle.zim_parse_expression.specs.Parser.{and_then, tuple_of, parse}
+use Rattle.zim_parse_expression.specs.StatementTokens.{expect_token, is_bar, option_in}
+use Rattle.zim_parse.specs.StatementParser.{options_of, each_once, reading_of, entry_of, given_of, row_of, rows_of, table_of}
+use Rattle.zim_parse_expression.proofs.BeginningLaws.{no}
+use Rattle.zim_parse_expression.proofs.ListLaws.{Listed, last_item, next_item, listed_items}
+use Rattle.zim_parse_expression.proofs.PrimaryLaws.{deeper, tuple_reads}
+use Rattle.zim_parse_expression.proofs.CompletenessLaws.{complete, complete_list}
 
 -- an expression, where a parser for what stands deeper reads it
 pub part : {level : Level} {ts : List Placed} {e : Expr} → Reads level ts e → (n : ℕ) → length ts < n → (rest : List Placed) → bound level < looseness rest → parse n level (ts ++ rest) ≡ Some (e, rest)

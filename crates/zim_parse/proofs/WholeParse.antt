@@ -5,7 +5,7 @@ use Rattle.zim_fault.specs.declared.tokens.Placed.{Placed}
 use Rattle.zim_tree.specs.declared.stmt.Stmt.{Stmt}
 use Rattle.zim_tree.specs.StatementGrammar.{ReadsStatement}
 use Rattle.zim_fault.specs.declared.kinds.Kind.TheVariants.{Syntax}
-use Rattle.zim_parse.specs.Parser.{parse}
+use Rattle.zim_parse_expression.specs.Parser.{parse}
 use Rattle.zim_scan.specs.Refused.{first_refused}
 use Rattle.zim_scan.specs.Nesting.{first_deep}
 use Rattle.zim_parse.specs.Answers.{fault_at, Refuses, no_statement}

@@ -19,13 +19,14 @@ use Rattle.zim_tree.specs.declared.stmt.Printed.{Printed}
 use Rattle.zim_tree.specs.Levels.{sum, disjunction, whole, placed, separator_token}
 use Rattle.zim_tree.specs.Grammar.{ReadsTuple}
 use Rattle.zim_tree.specs.StatementGrammar.{word_at, is_kind, limit_token, LimitsKept, ReadsKind, no_kind, a_kind, ReadsLimits, no_limit, a_limit, ReadsPrinted, a_printed_value, a_printed_tuple, ReadsPrintedList, the_last_printed, one_more_printed, ReadsDoing, a_print, a_check, for_each, ReadsNames, the_last_name, one_more_name, ReadsParameters, no_parameter, the_parameters, is_definition, goal_word, declared, ReadsShape, a_set_statement, a_param_statement, a_var_statement, a_goal_statement, a_subto_statement, a_definition, a_do_statement, ReadsStatement, a_statement}
-use Rattle.zim_parse.specs.Next.{Start, a_less, start_of, is_in, is_right_paren}
-use Rattle.zim_parse.specs.Parser.{Inner, Parsed, and_then, expect, parse}
-use Rattle.zim_parse.specs.StatementParser.{expect_token, is_semicolon, is_assign, is_colon, is_priority, is_startval, name_at, name_of, kind_in, kind_at, kind_of, limit_in, limit_or, limits_of, is_binary, is_empty, limits_kept, var_of, printed_tuple, printed_at, printed_of, doing_at, doing_of, parameters_at, goal_of, definition_of, declared_of, behind_word, behind_first, statement_of}
-use Rattle.zim_parse.proofs.Beginnings.{no}
-use Rattle.zim_parse.proofs.Inversions.{then_parts, answer, Split, Got, concluded, prefixed, appended, single, infixed, got_left_paren, got_right_paren, got_separator, Sound, Commaed, last_one, another, got_items}
-use Rattle.zim_parse.proofs.PrimarySound.{SoundInner, tuple_sound, index_sound}
-use Rattle.zim_parse.proofs.Soundness.{parse_sound}
+use Rattle.zim_parse_expression.specs.Next.{Start, a_less, start_of, is_in, is_right_paren}
+use Rattle.zim_parse_expression.specs.Parser.{Inner, Parsed, and_then, expect, parse}
+use Rattle.zim_parse_expression.specs.StatementTokens.{expect_token, is_semicolon, is_assign, is_colon, is_priority, is_startval, kind_in, kind_at, kind_of, limit_in}
+use Rattle.zim_parse.specs.StatementParser.{name_at, name_of, limit_or, limits_of, is_binary, is_empty, limits_kept, var_of, printed_tuple, printed_at, printed_of, doing_at, doing_of, parameters_at, goal_of, definition_of, declared_of, behind_word, behind_first, statement_of}
+use Rattle.zim_parse_expression.proofs.BeginningLaws.{no}
+use Rattle.zim_parse_expression.proofs.InversionLaws.{then_parts, answer, Split, Got, concluded, prefixed, appended, single, infixed, got_left_paren, got_right_paren, got_separator, Sound, Commaed, last_one, another, got_items}
+use Rattle.zim_parse_expression.proofs.PrimarySoundLaws.{SoundInner, tuple_sound, index_sound}
+use Rattle.zim_parse_expression.proofs.SoundnessLaws.{parse_sound}
 use Rattle.zim_parse.proofs.StatementSound.{token_fixed, semicolon_back, assign_back, colon_back, priority_back, startval_back, given_sound}
 use Rattle.zim_parse.proofs.SideSound.{brackets_sound, set_brackets_sound}
 use Rattle.zim_parse.proofs.RightSideSound.{set_side_sound, par_side_sound}

@@ -19,13 +19,14 @@ use Rattle.zim_tree.specs.declared.stmt.Printed.TheVariants as printed
 use Rattle.zim_tree.specs.Levels.{sum, disjunction, placed, separator_token}
 use Rattle.zim_tree.specs.Grammar.{Reads, a_tuple}
 use Rattle.zim_tree.specs.StatementGrammar.{word_at, limit_token, LimitsKept, ReadsBrackets, ReadsGiven, not_given, is_given, ReadsKind, no_kind, a_kind, ReadsLimits, no_limit, a_limit, ReadsPrinted, a_printed_value, a_printed_tuple, ReadsPrintedList, the_last_printed, one_more_printed, ReadsDoing, a_print, a_check, for_each, ReadsNames, the_last_name, one_more_name, ReadsParameters, no_parameter, the_parameters, is_definition, goal_word, ReadsShape, a_set_statement, a_param_statement, a_var_statement, a_goal_statement, a_subto_statement, a_definition, a_do_statement, ReadsStatement, a_statement}
-use Rattle.zim_parse.specs.Next.{looseness, bound, Start, a_less, start_of, is_in, is_right_paren}
-use Rattle.zim_parse.specs.Parser.{Inner, and_then, expect, parse}
-use Rattle.zim_parse.specs.StatementParser.{expect_token, is_left_bracket, is_priority, is_startval, name_of, kind_of, kind_in, limit_in, limits_of, limits_kept, is_binary, is_empty, var_of, printed_at, printed_of, doing_of, parameters_of, definition_of, declared_of, behind_word, statement_of}
-use Rattle.zim_parse.proofs.Beginnings.{no}
-use Rattle.zim_parse.proofs.ListSteps.{Listed, last_item, next_item, listed_items}
-use Rattle.zim_parse.proofs.PrimarySteps.{tuple_reads}
-use Rattle.zim_parse.proofs.Completeness.{complete_list, complete_index_of}
+use Rattle.zim_parse_expression.specs.Next.{looseness, bound, Start, a_less, start_of, is_in, is_right_paren}
+use Rattle.zim_parse_expression.specs.Parser.{Inner, and_then, expect, parse}
+use Rattle.zim_parse_expression.specs.StatementTokens.{expect_token, is_left_bracket, is_priority, is_startval, kind_of, kind_in, limit_in}
+use Rattle.zim_parse.specs.StatementParser.{name_of, limits_of, limits_kept, is_binary, is_empty, var_of, printed_at, printed_of, doing_of, parameters_of, definition_of, declared_of, behind_word, statement_of}
+use Rattle.zim_parse_expression.proofs.BeginningLaws.{no}
+use Rattle.zim_parse_expression.proofs.ListLaws.{Listed, last_item, next_item, listed_items}
+use Rattle.zim_parse_expression.proofs.PrimaryLaws.{tuple_reads}
+use Rattle.zim_parse_expression.proofs.CompletenessLaws.{complete_list, complete_index_of}
 use Rattle.zim_parse.proofs.StatementSteps.{part, given_read}
 use Rattle.zim_parse.proofs.StatementBeginnings.{starts_less, MemberFirst, member_first}
 use Rattle.zim_parse.proofs.StatementCompleteness.{ended_by, set_side_read, par_side_read, brackets_read, set_brackets_read}

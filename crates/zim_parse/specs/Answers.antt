@@ -12,8 +12,8 @@ use Rattle.zim_scan.specs.Refused.{first_refused}
 use Rattle.zim_scan.specs.Nesting.{first_deep}
 use Rattle.zim_parse.specs.declared.fault.ParseFault.{ParseFault}
 use Rattle.zim_parse.specs.declared.fault.ParseFault.TheVariants as answer
-use Rattle.zim_parse.specs.declared.failure.Failure.{Failure}
-use Rattle.zim_parse.specs.declared.failure.Failure.TheVariants as failure
+use Rattle.zim_parse_expression.specs.declared.failure.Failure.{Failure}
+use Rattle.zim_parse_expression.specs.declared.failure.Failure.TheVariants as failure
 
 -- a fault of this kind at this place
 abbrev pub fault_at : Place → Kind → Fault

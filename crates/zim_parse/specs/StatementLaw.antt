@@ -6,7 +6,7 @@ use Rattle.zim_tree.specs.declared.stmt.Stmt.{Stmt}
 use Rattle.zim_tree.specs.StatementSpelling.{spelled_of}
 use Rattle.zim_tree.specs.StatementGrammar.{ReadsStatement}
 use Rattle.zim_tree.specs.PlainStatement.{plain_statement}
-use Rattle.zim_parse.specs.Parser.{parse}
+use Rattle.zim_parse_expression.specs.Parser.{parse}
 use Rattle.zim_parse.specs.StatementParser.{statement_of}
 
 -- a statement is tight where it has a derivation

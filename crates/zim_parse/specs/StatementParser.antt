@@ -2,11 +2,10 @@
 use Rattle.std.specs.Prelude.{ℕ, zero, suc, List, [], ◌∷◌, length, count_by, Bool, true, false, not, ◌&&◌, Option, Some, None, nat_eq, nat_le, if◌then◌else◌}
 use Rattle.zim_fault.specs.declared.faults.Place.{Place}
 use Rattle.zim_fault.specs.declared.tokens.Token.{Token}
-use Rattle.zim_fault.specs.declared.tokens.Token.TheVariants.{Name as name_token, Word as word_token, Sign as sign_token}
+use Rattle.zim_fault.specs.declared.tokens.Token.TheVariants.{Name as name_token, Word as word_token}
 use Rattle.zim_fault.specs.declared.tokens.Placed.{Placed}
-use Rattle.zim_fault.specs.declared.signs.Sign.TheVariants.{SSemicolon, SColon, SLeftBracket, SLeftBrace, SLessEqual, SGreaterEqual, SAssign, SBar}
 use Rattle.zim_fault.specs.declared.words.Word.{Word}
-use Rattle.zim_fault.specs.declared.words.Word.TheVariants.{WSet, WParam, WVar, WMinimize, WMaximize, WSubto, WDefnumb, WDefstrg, WDefbool, WDefset, WDo, WPrint, WCheck, WForall, WRead, WAs, WDefault, WBinary, WPriority, WStartval}
+use Rattle.zim_fault.specs.declared.words.Word.TheVariants.{WSet, WParam, WVar, WMinimize, WMaximize, WSubto, WDefnumb, WDefstrg, WDefbool, WDefset, WDo, WPrint, WCheck, WForall, WBinary}
 use Rattle.zim_tree.specs.declared.expr.Expr.{Expr}
 use Rattle.zim_tree.specs.declared.expr.Expr.TheVariants as tree
 use Rattle.zim_tree.specs.declared.expr.Angle.{Angle}
@@ -30,70 +29,11 @@ use Rattle.zim_tree.specs.declared.classes.Class.{Class}
 use Rattle.zim_tree.specs.declared.classes.Class.TheVariants as class
 use Rattle.zim_tree.specs.Classes.{word_class}
 use Rattle.zim_tree.specs.Levels.{unary, sum, disjunction, whole}
-use Rattle.zim_tree.specs.StatementGrammar.{is_option, is_skip, is_use, is_comment, is_kind}
+use Rattle.zim_tree.specs.StatementGrammar.{is_skip, is_use, is_comment}
 use Rattle.zim_scan.specs.Nesting.{is_left_paren}
-use Rattle.zim_parse.specs.Next.{is_right_paren, is_right_bracket, is_right_brace, is_in, Start, a_less, start_of}
-use Rattle.zim_parse.specs.Parser.{Parsed, Parser, Inner, and_then, expect, flag_of, separator_in, items_of, tuple_of, index_from, arguments}
-
--- one token that passes a test, for its place
-abbrev pub expect_token : (Token → Bool) → Parser Place
-expect_token test [] = None
-expect_token test (t ∷ rest) = if test t.token then Some (t.place, rest) else None
-
--- `;`
-abbrev pub is_semicolon : Token → Bool
-is_semicolon (sign_token SSemicolon) = true
-is_semicolon _ = false
-
--- `:=`
-abbrev pub is_assign : Token → Bool
-is_assign (sign_token SAssign) = true
-is_assign _ = false
-
--- `:`
-abbrev pub is_colon : Token → Bool
-is_colon (sign_token SColon) = true
-is_colon _ = false
-
--- `[`
-abbrev pub is_left_bracket : Token → Bool
-is_left_bracket (sign_token SLeftBracket) = true
-is_left_bracket _ = false
-
--- `{`
-abbrev pub is_left_brace : Token → Bool
-is_left_brace (sign_token SLeftBrace) = true
-is_left_brace _ = false
-
--- `|`
-abbrev pub is_bar : Token → Bool
-is_bar (sign_token SBar) = true
-is_bar _ = false
-
--- `read`
-abbrev pub is_read : Token → Bool
-is_read (word_token WRead) = true
-is_read _ = false
-
--- `as`
-abbrev pub is_as : Token → Bool
-is_as (word_token WAs) = true
-is_as _ = false
-
--- `default`
-abbrev pub is_default : Token → Bool
-is_default (word_token WDefault) = true
-is_default _ = false
-
--- `priority`
-abbrev pub is_priority : Token → Bool
-is_priority (word_token WPriority) = true
-is_priority _ = false
-
--- `startval`
-abbrev pub is_startval : Token → Bool
-is_startval (word_token WStartval) = true
-is_startval _ = false
+use Rattle.zim_parse_expression.specs.Next.{is_right_paren, is_right_bracket, is_right_brace, is_in, Start, a_less, start_of}
+use Rattle.zim_parse_expression.specs.Parser.{Parsed, Parser, Inner, and_then, expect, flag_of, separator_in, items_of, tuple_of, index_from, arguments}
+use Rattle.zim_parse_expression.specs.StatementTokens.{expect_token, is_semicolon, is_assign, is_colon, is_left_bracket, is_left_brace, is_bar, is_read, is_as, is_default, is_priority, is_startval, option_in, sees, begins_read, kind_of, limit_in}
 
 -- a name with its place
 abbrev pub name_at : Placed → List Placed → Token → Parsed (Place × List ℕ)
@@ -106,15 +46,6 @@ name_of [] = None
 name_of (t ∷ rest) = name_at t rest t.token
 
 -- `read`
-
--- the word of an option, if the token is one
-abbrev pub option_word : Word → Option Word
-option_word w = if is_option w then Some w else None
-
--- the word of an option that a token is
-abbrev pub option_in : Token → Option Word
-option_in (word_token w) = option_word w
-option_in _ = None
 
 -- an option and those behind it, or none
 abbrev pub option_or : Inner → (List Placed → Parsed (List (Place × Word × Expr))) → Placed → List Placed → Option Word → Parsed (List (Place × Word × Expr))
@@ -176,16 +107,6 @@ table_of inner ts = and_then (items_of (inner unary) ts) (λ head r1. and_then (
     and_then (rows_of inner (length head) (suc (length r3)) r3) (λ rows left. Some (record { head = head; rows = rows }, left)))))
 
 -- the right sides
-
--- whether a token that passes a test comes next
-abbrev pub sees : (Token → Bool) → List Placed → Bool
-sees test [] = false
-sees test (t ∷ rest) = test t.token
-
--- whether `{` and `read` come next
-abbrev pub begins_read : List Placed → Bool
-begins_read [] = false
-begins_read (t ∷ rest) = is_left_brace t.token && sees is_read rest
 
 -- a set that is read, in its braces
 abbrev pub set_read : Inner → Parser SetSide
@@ -286,31 +207,6 @@ unfoldable pub set_brackets_of : Inner → Parser (Option Bracket)
 set_brackets_of inner ts = set_brackets_at inner (expect_token is_left_bracket ts) ts
 
 -- variables
-
--- the kind that a token is, if it is one
-abbrev pub kind_word : Word → Option Word
-kind_word w = if is_kind w then Some w else None
-
--- the kind that a token is
-abbrev pub kind_in : Token → Option Word
-kind_in (word_token w) = kind_word w
-kind_in _ = None
-
--- a kind that was read, or none
-abbrev pub kind_at : Placed → List Placed → Option Word → Option Word × List Placed
-kind_at t rest None = (None, t ∷ rest)
-kind_at t rest (Some w) = (Some w, rest)
-
--- a kind, if one comes next, and what is left behind it
-abbrev pub kind_of : List Placed → Option Word × List Placed
-kind_of [] = (None, [])
-kind_of (t ∷ rest) = kind_at t rest (kind_in t.token)
-
--- whether a token is `>=` or `<=`
-abbrev pub limit_in : Token → Option Bool
-limit_in (sign_token SGreaterEqual) = Some true
-limit_in (sign_token SLessEqual) = Some false
-limit_in _ = None
 
 -- a bound and those behind it, or none
 abbrev pub limit_or : Inner → (List Placed → Parsed (List Limit)) → Placed → List Placed → Option Bool → Parsed (List Limit)

@@ -20,10 +20,11 @@ use Rattle.zim_tree.specs.declared.stmt.Printed.TheVariants as printed
 use Rattle.zim_tree.specs.Levels.{unary, sum, disjunction, whole}
 use Rattle.zim_tree.specs.declared.stmt.Bracket.{Bracket}
 use Rattle.zim_tree.specs.declared.stmt.Bracket.TheVariants as bracket
-use Rattle.zim_parse.specs.Next.{is_in, start_of}
-use Rattle.zim_parse.specs.Outcome.{is_less_start}
-use Rattle.zim_parse.specs.Parser.{Parser, Inner, and_then, expect, items_of, tuple_of, index_from}
-use Rattle.zim_parse.specs.StatementParser.{expect_token, is_priority, is_startval, options_of, each_once, rows_of, given_of, limits_kept, is_assign, is_colon, is_bar, is_read, is_default, sees, begins_read, set_read, set_value, entry_of, set_side_of, par_value, par_read_alone, par_side_of, par_default, par_table, par_read, par_entries, brackets_of, set_brackets_of, name_of, declared_of, doing_of, doing_at, printed_tuple}
+use Rattle.zim_parse_expression.specs.Next.{is_in, start_of}
+use Rattle.zim_parse_expression.specs.Outcome.{is_less_start}
+use Rattle.zim_parse_expression.specs.Parser.{Parser, Inner, and_then, expect, items_of, tuple_of, index_from}
+use Rattle.zim_parse_expression.specs.StatementTokens.{expect_token, is_priority, is_startval, is_assign, is_colon, is_bar, is_read, is_default, sees, begins_read}
+use Rattle.zim_parse.specs.StatementParser.{options_of, each_once, rows_of, given_of, limits_kept, set_read, set_value, entry_of, set_side_of, par_value, par_read_alone, par_side_of, par_default, par_table, par_read, par_entries, brackets_of, set_brackets_of, name_of, declared_of, doing_of, doing_at, printed_tuple}
 
 -- what a parameter over a set is declared to be
 unfoldable pub par_listed : Inner → Parser ParSide

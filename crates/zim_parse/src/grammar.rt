@@ -1,50 +1,64 @@
-//! The rules take the parser of what stands deeper as a parameter, so that each is proved by itself.
+//! The expressions of statements.
 
-ghost use Rattle.zim_parse.specs.Outcome.{Gives, Nests, level_wanted};
-ghost use Rattle.zim_parse.specs.Parser.{parse, at_level};
+ghost use Rattle.zim_parse_expression.specs.Outcome.{Gives, level_wanted};
+ghost use Rattle.zim_parse_expression.specs.Parser as parser;
+ghost use Rattle.zim_parse_expression.specs.Parser.{parse};
 
-use crate::failure::Failure;
-use crate::tokens::Tokens;
-use sqlite_items::Boxed;
+use sqlite_items::{Boxed, Items};
 use std::alloc::Global;
-use zim_tree::Expr;
+use zim_parse_expression::{
+    Failure, Tokens, Wanted, arguments, expression, expressions, index, tuple,
+};
+use zim_tree::{Angle, Expr, Index};
 
-/// The levels at which a rule begins anew inside brackets or behind a word.
+/// The rules of statements.
 #[derive(Clone, Copy)]
-pub enum Wanted {
-    Unary,
-    Term,
-    Sum,
-    Disjunction,
-    Whole,
-}
-
-#[derive(Clone, Copy)]
-pub struct Grammar<F> {
+pub struct Grammar {
     pub alloc: Global,
-    /// How many levels deep `inner` still goes.
+    /// How many levels deep expressions stand at most.
     pub depth: usize,
-    pub inner: F,
 }
 
-impl<F: Fn(Global, &mut Tokens<'_>, usize, Wanted) -> Result<Expr, Failure>> Grammar<F> {
-    /// An expression of a level that stands deeper.
-    pub fn inner(&self, tokens: &mut Tokens<'_>, level: Wanted) -> Result<Expr, Failure>
-        requires { Nests self.now.depth (F.pre self.now.inner) (F.post self.now.inner) }
+impl Grammar {
+    /// An expression of this level.
+    pub fn expression(&self, tokens: &mut Tokens<'_>, level: Wanted) -> Result<Expr, Failure>
         ensures { Gives (parse self.now.depth (level_wanted level) tokens.old) result tokens.new }
     {
-        (self.inner)(self.alloc, tokens, self.depth, level)
+        expression(self.alloc, tokens, self.depth, level)
     }
 
     /// The same in a box.
-    pub fn inner_boxed(
-        &self,
-        tokens: &mut Tokens<'_>,
-        level: Wanted,
-    ) -> Result<Boxed<Expr>, Failure>
-        requires { Nests self.now.depth (F.pre self.now.inner) (F.post self.now.inner) }
+    pub fn boxed(&self, tokens: &mut Tokens<'_>, level: Wanted) -> Result<Boxed<Expr>, Failure>
         ensures { Gives (parse self.now.depth (level_wanted level) tokens.old) result tokens.new }
     {
-        Ok(Boxed::new(self.alloc, self.inner(tokens, level)?)?)
+        Ok(Boxed::new(self.alloc, self.expression(tokens, level)?)?)
+    }
+
+    /// One or more expressions with commas between them.
+    pub fn exprs(&self, tokens: &mut Tokens<'_>, level: Wanted) -> Result<Items<Expr>, Failure>
+        ensures { Gives (parser.items_of (parse self.now.depth (level_wanted level)) tokens.old) result tokens.new }
+    {
+        expressions(self.alloc, tokens, self.depth, level)
+    }
+
+    /// Arguments, and `)`.
+    pub fn arguments(&self, tokens: &mut Tokens<'_>) -> Result<Items<Expr>, Failure>
+        ensures { Gives (parser.arguments (parse self.now.depth) tokens.old) result tokens.new }
+    {
+        arguments(self.alloc, tokens, self.depth)
+    }
+
+    /// `<a, b>`
+    pub fn tuple(&self, tokens: &mut Tokens<'_>) -> Result<Angle, Failure>
+        ensures { Gives (parser.tuple_of (parse self.now.depth) tokens.old) result tokens.new }
+    {
+        tuple(self.alloc, tokens, self.depth)
+    }
+
+    /// `<i, j> in set with condition`
+    pub fn index(&self, tokens: &mut Tokens<'_>) -> Result<Boxed<Index>, Failure>
+        ensures { Gives (parser.index_from (parse self.now.depth) tokens.old) result tokens.new }
+    {
+        index(self.alloc, tokens, self.depth)
     }
 }

@@ -1,13 +1,11 @@
 ghost use Rattle.std.specs.Prelude.{◌<◌, length};
 ghost use Rattle.zim_parse.specs.Answers.{Parses, WholeGives};
 
-use crate::failure::Failure;
 use crate::fault::ParseFault;
 use crate::grammar::Grammar;
-use crate::levels::expression;
-use crate::tokens::Tokens;
 use std::alloc::Global;
 use zim_fault::{Fault, Kind, Placed};
+use zim_parse_expression::{Failure, Tokens};
 use zim_scan::{first_deep, first_refused};
 use zim_tree::Stmt;
 
@@ -19,13 +17,12 @@ fn whole_statement(alloc: Global, tokens: &[Placed]) -> Result<Stmt, Failure>
     let grammar = Grammar {
         alloc,
         depth: tokens.len(),
-        inner: expression,
     };
     let stmt = grammar.statement(&mut rest)?;
     if rest.len() != 0 {
         return Err(Failure::Syntax);
     }
-    Ok(stmt.into_inner())
+    Ok(stmt)
 }
 
 /// The one tight statement that the tokens spell, its `;` among them, with the places that they give its

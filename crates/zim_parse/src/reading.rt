@@ -1,53 +1,48 @@
 //! `read`, entries, tables and defaults.
 
 ghost use Rattle.std.specs.Prelude.{length};
-ghost use Rattle.zim_parse.specs.Outcome.{Gives, Nests, word_test};
-ghost use Rattle.zim_parse.specs.Parser as parser;
-ghost use Rattle.zim_parse.specs.Parser.{parse};
+ghost use Rattle.zim_parse_expression.specs.Outcome.{Gives, word_test};
+ghost use Rattle.zim_parse_expression.specs.Parser as parser;
+ghost use Rattle.zim_parse_expression.specs.Parser.{parse};
 ghost use Rattle.zim_parse.specs.StatementParser as spec;
 ghost use Rattle.zim_parse.specs.StatementSteps as steps;
-ghost use Rattle.zim_parse.specs.Turns.{comma_turn, option_turn};
+ghost use Rattle.zim_parse.specs.StatementTurns.{option_turn};
+ghost use Rattle.zim_parse_expression.specs.Turns.{repeat};
 
 use crate::counts::each_once;
-use crate::failure::Failure;
-use crate::grammar::{Grammar, Wanted};
-use crate::tokens::Tokens;
+use crate::grammar::Grammar;
 use sqlite_items::{Boxed, Items};
-use std::alloc::Global;
 use zim_fault::{Place, Sign, Word};
-use zim_tree::{Angle, Class, Expr, Reading, Table};
+use zim_parse_expression::{Failure, Tokens, Wanted, items_of, repeat};
+use zim_tree::{Angle, Expr, Reading, Table};
 
-impl<F: Fn(Global, &mut Tokens<'_>, usize, Wanted) -> Result<Expr, Failure>> Grammar<F> {
+impl Grammar {
     /// The next option of a `read` with its operand, if one comes next.
-    #[tactic(auto, unfolding(crate::specs::Turns::option_turn, crate::specs::Parser::and_then))]
+    #[tactic(auto, unfolding(crate::specs::StatementTurns::option_turn, zim_parse_expression::specs::Parser::and_then))]
     fn next_option(&self, tokens: &mut Tokens<'_>) -> Result<Option<(Place, Word, Expr)>, Failure>
-        requires { Nests self.now.depth (F.pre self.now.inner) (F.post self.now.inner) }
         ensures { Gives (option_turn (parse self.now.depth) tokens.old) result tokens.new }
     {
         let Some((place, word)) = tokens.eat_option() else {
             return Ok(None);
         };
-        let operand = self.inner(tokens, Wanted::Sum)?;
+        let operand = self.expression(tokens, Wanted::Sum)?;
         Ok(Some((place, word, operand)))
     }
 
     /// The options that come next.
     fn options(&self, tokens: &mut Tokens<'_>) -> Result<Items<(Place, Word, Expr)>, Failure>
-        requires { Nests self.now.depth (F.pre self.now.inner) (F.post self.now.inner) }
-        ensures { Gives (spec.options_of (parse self.now.depth) (length tokens.old) tokens.old) result tokens.new }
+        ensures { Gives (repeat (option_turn (parse self.now.depth)) (length tokens.old) tokens.old) result tokens.new }
     {
-        let mut options = Items::new(self.alloc);
-        for _turn in 0..tokens.len() {
-            match self.next_option(tokens)? {
-                None => return Ok(options),
-                Some(option) => options.push(option)?,
-            }
-        }
-        Ok(options)
+        repeat(
+            self.alloc,
+            tokens,
+            tokens.len(),
+            |left| self.next_option(left),
+        )
     }
 
     /// A `read` behind its template.
-    #[tactic(auto, unfolding(crate::specs::StatementSteps::reading_end, crate::specs::Parser::and_then))]
+    #[tactic(auto, using(crate::proofs::StatementTurns::options_by_turns), unfolding(crate::specs::StatementSteps::reading_end, zim_parse_expression::specs::Parser::and_then))]
     fn reading_end(
         &self,
         tokens: &mut Tokens<'_>,
@@ -55,7 +50,6 @@ impl<F: Fn(Global, &mut Tokens<'_>, usize, Wanted) -> Result<Expr, Failure>> Gra
         file: Boxed<Expr>,
         template: Boxed<Expr>,
     ) -> Result<Reading, Failure>
-        requires { Nests self.now.depth (F.pre self.now.inner) (F.post self.now.inner) }
         ensures { Gives (steps.reading_end (parse self.now.depth) place file template tokens.old) result tokens.new }
     {
         let options = self.options(tokens)?;
@@ -71,100 +65,60 @@ impl<F: Fn(Global, &mut Tokens<'_>, usize, Wanted) -> Result<Expr, Failure>> Gra
     }
 
     /// A `read` with its options.
-    #[tactic(auto, unfolding(crate::specs::StatementParser::reading_of, crate::specs::StatementSteps::reading_end, crate::specs::Parser::and_then))]
+    #[tactic(auto, unfolding(crate::specs::StatementParser::reading_of, crate::specs::StatementSteps::reading_end, zim_parse_expression::specs::Parser::and_then))]
     pub fn reading(&self, tokens: &mut Tokens<'_>) -> Result<Reading, Failure>
-        requires { Nests self.now.depth (F.pre self.now.inner) (F.post self.now.inner) }
         ensures { Gives (spec.reading_of (parse self.now.depth) tokens.old) result tokens.new }
     {
         tokens.expect_word(Word::WRead)?;
-        let file = self.inner_boxed(tokens, Wanted::Sum)?;
+        let file = self.boxed(tokens, Wanted::Sum)?;
         let place = tokens.expect_word(Word::WAs)?;
-        let template = self.inner_boxed(tokens, Wanted::Sum)?;
+        let template = self.boxed(tokens, Wanted::Sum)?;
         self.reading_end(tokens, place, file, template)
     }
 
     /// An index and what belongs to it.
-    #[tactic(auto, unfolding(crate::specs::StatementParser::entry_of, crate::specs::Parser::and_then))]
+    #[tactic(auto, unfolding(crate::specs::StatementParser::entry_of, zim_parse_expression::specs::Parser::and_then))]
     fn entry(&self, tokens: &mut Tokens<'_>) -> Result<(Angle, Expr), Failure>
-        requires { Nests self.now.depth (F.pre self.now.inner) (F.post self.now.inner) }
         ensures { Gives (spec.entry_of (parse self.now.depth) tokens.old) result tokens.new }
     {
         let tuple = self.tuple(tokens)?;
-        let given = self.inner(tokens, Wanted::Sum)?;
+        let given = self.expression(tokens, Wanted::Sum)?;
         Ok((tuple, given))
     }
 
-    /// One more entry behind a comma, if a comma comes next.
-    #[tactic(auto, unfolding(crate::specs::Turns::comma_turn, crate::specs::Parser::and_then))]
-    fn next_entry(&self, tokens: &mut Tokens<'_>) -> Result<Option<(Angle, Expr)>, Failure>
-        requires { Nests self.now.depth (F.pre self.now.inner) (F.post self.now.inner) }
-        ensures { Gives (comma_turn (spec.entry_of (parse self.now.depth)) tokens.old) result tokens.new }
-    {
-        if tokens.eat(Class::Comma).is_none() {
-            return Ok(None);
-        }
-        let item = self.entry(tokens)?;
-        Ok(Some(item))
-    }
-
-    /// The entries of which the first was read.
-    fn entries_behind(
-        &self,
-        tokens: &mut Tokens<'_>,
-        first: (Angle, Expr),
-    ) -> Result<Items<(Angle, Expr)>, Failure>
-        requires { Nests self.now.depth (F.pre self.now.inner) (F.post self.now.inner) }
-        ensures { Gives (parser.items_behind (spec.entry_of (parse self.now.depth)) (length tokens.old) first tokens.old) result tokens.new }
-    {
-        let mut items = Items::new(self.alloc);
-        items.push(first)?;
-        for _turn in 0..tokens.len() {
-            match self.next_entry(tokens)? {
-                None => return Ok(items),
-                Some(item) => items.push(item)?,
-            }
-        }
-        Ok(items)
-    }
-
     /// One or more entries with commas between them.
-    #[tactic(auto, unfolding(crate::specs::Parser::items_of, crate::specs::Parser::and_then))]
     pub fn entries(&self, tokens: &mut Tokens<'_>) -> Result<Items<(Angle, Expr)>, Failure>
-        requires { Nests self.now.depth (F.pre self.now.inner) (F.post self.now.inner) }
         ensures { Gives (parser.items_of (spec.entry_of (parse self.now.depth)) tokens.old) result tokens.new }
     {
-        let first = self.entry(tokens)?;
-        self.entries_behind(tokens, first)
+        items_of(self.alloc, tokens, |left| self.entry(left))
     }
 
     /// An operand behind this word, if the word comes next.
-    #[tactic(auto, unfolding(crate::specs::Parser::and_then))]
+    #[tactic(auto, unfolding(zim_parse_expression::specs::Parser::and_then))]
     pub fn given(
         &self,
         tokens: &mut Tokens<'_>,
         word: Word,
     ) -> Result<Option<(Place, Boxed<Expr>)>, Failure>
-        requires { Nests self.now.depth (F.pre self.now.inner) (F.post self.now.inner) }
         ensures { Gives (spec.given_of (parse self.now.depth) (word_test word) tokens.old) result tokens.new }
     {
         match tokens.eat_word(word) {
             None => Ok(None),
             Some(place) => {
-                let operand = self.inner_boxed(tokens, Wanted::Sum)?;
+                let operand = self.boxed(tokens, Wanted::Sum)?;
                 Ok(Some((place, operand)))
             }
         }
     }
 
     /// The values of a row behind its items and a bar, as many as there are columns.
-    #[tactic(auto, unfolding(crate::specs::StatementSteps::row_end, crate::specs::Parser::and_then))]
+    #[tactic(auto, unfolding(crate::specs::StatementSteps::row_end, zim_parse_expression::specs::Parser::and_then))]
     fn row_end(
         &self,
         tokens: &mut Tokens<'_>,
         columns: usize,
         items: Items<Expr>,
     ) -> Result<(Items<Expr>, Items<Expr>), Failure>
-        requires { Nests self.now.depth (F.pre self.now.inner) (F.post self.now.inner) }
         ensures { Gives (steps.row_end (parse self.now.depth) columns items tokens.old) result tokens.new }
     {
         let values = self.exprs(tokens, Wanted::Unary)?;
@@ -176,13 +130,12 @@ impl<F: Fn(Global, &mut Tokens<'_>, usize, Wanted) -> Result<Expr, Failure>> Gra
     }
 
     /// A row of a table behind its first bar, with as many values as there are columns.
-    #[tactic(auto, unfolding(crate::specs::StatementParser::row_of, crate::specs::StatementSteps::row_end, crate::specs::Parser::and_then))]
+    #[tactic(auto, unfolding(crate::specs::StatementParser::row_of, crate::specs::StatementSteps::row_end, zim_parse_expression::specs::Parser::and_then))]
     fn row(
         &self,
         tokens: &mut Tokens<'_>,
         columns: usize,
     ) -> Result<(Items<Expr>, Items<Expr>), Failure>
-        requires { Nests self.now.depth (F.pre self.now.inner) (F.post self.now.inner) }
         ensures { Gives (spec.row_of (parse self.now.depth) columns tokens.old) result tokens.new }
     {
         let items = self.exprs(tokens, Wanted::Unary)?;
@@ -197,7 +150,6 @@ impl<F: Fn(Global, &mut Tokens<'_>, usize, Wanted) -> Result<Expr, Failure>> Gra
         columns: usize,
         turns: usize,
     ) -> Result<Items<(Items<Expr>, Items<Expr>)>, Failure>
-        requires { Nests self.now.depth (F.pre self.now.inner) (F.post self.now.inner) }
         ensures { Gives (spec.rows_of (parse self.now.depth) columns turns tokens.old) result tokens.new }
     {
         let mut rows = Items::new(self.alloc);
@@ -213,9 +165,8 @@ impl<F: Fn(Global, &mut Tokens<'_>, usize, Wanted) -> Result<Expr, Failure>> Gra
     }
 
     /// The rows of a table behind its head.
-    #[tactic(auto, unfolding(crate::specs::StatementSteps::table_end, crate::specs::Parser::and_then))]
+    #[tactic(auto, unfolding(crate::specs::StatementSteps::table_end, zim_parse_expression::specs::Parser::and_then))]
     fn table_end(&self, tokens: &mut Tokens<'_>, head: Items<Expr>) -> Result<Table, Failure>
-        requires { Nests self.now.depth (F.pre self.now.inner) (F.post self.now.inner) }
         ensures { Gives (steps.table_end (parse self.now.depth) head tokens.old) result tokens.new }
     {
         let turns = tokens.len() + 1;
@@ -224,9 +175,8 @@ impl<F: Fn(Global, &mut Tokens<'_>, usize, Wanted) -> Result<Expr, Failure>> Gra
     }
 
     /// A table behind its first bar.
-    #[tactic(auto, unfolding(crate::specs::StatementParser::table_of, crate::specs::StatementSteps::table_end, crate::specs::Parser::and_then))]
+    #[tactic(auto, unfolding(crate::specs::StatementParser::table_of, crate::specs::StatementSteps::table_end, zim_parse_expression::specs::Parser::and_then))]
     pub fn table(&self, tokens: &mut Tokens<'_>) -> Result<Table, Failure>
-        requires { Nests self.now.depth (F.pre self.now.inner) (F.post self.now.inner) }
         ensures { Gives (spec.table_of (parse self.now.depth) tokens.old) result tokens.new }
     {
         let head = self.exprs(tokens, Wanted::Unary)?;

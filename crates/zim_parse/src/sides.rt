@@ -1,27 +1,32 @@
 //! What sets, parameters and variables are declared to be.
 
-ghost use Rattle.std.specs.Prelude.{length};
-ghost use Rattle.zim_parse.specs.Outcome.{Gives, Nests};
-ghost use Rattle.zim_parse.specs.Parser.{parse};
+ghost use Rattle.std.specs.Prelude.{◌≡◌, length};
+ghost use Rattle.zim_parse_expression.specs.Outcome.{Gives};
+ghost use Rattle.zim_parse_expression.specs.Parser.{parse};
 ghost use Rattle.zim_parse.specs.StatementParser as spec;
 ghost use Rattle.zim_parse.specs.StatementSteps as steps;
-ghost use Rattle.zim_parse.specs.Turns.{limit_turn};
+ghost use Rattle.zim_tree.specs.Classes.{word_class};
+ghost use Rattle.zim_parse.specs.StatementTurns.{limit_turn};
+ghost use Rattle.zim_parse_expression.specs.Turns.{repeat};
 
 use crate::counts::limits_kept;
-use crate::failure::Failure;
-use crate::grammar::{Grammar, Wanted};
-use crate::next::is_family;
-use crate::tokens::Tokens;
+use crate::grammar::Grammar;
 use sqlite_items::{Boxed, Items};
-use std::alloc::Global;
 use zim_fault::{Sign, Token, Word};
-use zim_tree::{Bracket, Class, Expr, Limit, ParSide, SetSide, Shape};
+use zim_parse_expression::{Failure, Tokens, Wanted, repeat};
+use zim_tree::{Bracket, Class, Expr, Limit, ParSide, SetSide, Shape, class_of};
 
-impl<F: Fn(Global, &mut Tokens<'_>, usize, Wanted) -> Result<Expr, Failure>> Grammar<F> {
+/// Whether a word is `powerset` or `subsets`.
+fn is_family(word: Word) -> bool
+    ensures { result ≡ spec.is_family (word_class word) }
+{
+    matches!(class_of(&Token::Word(word)), Class::Family)
+}
+
+impl Grammar {
     /// A set that is read, in its braces.
-    #[tactic(auto, unfolding(crate::specs::Parser::and_then))]
+    #[tactic(auto, unfolding(zim_parse_expression::specs::Parser::and_then))]
     fn set_read(&self, tokens: &mut Tokens<'_>) -> Result<SetSide, Failure>
-        requires { Nests self.now.depth (F.pre self.now.inner) (F.post self.now.inner) }
         ensures { Gives (spec.set_read (parse self.now.depth) tokens.old) result tokens.new }
     {
         tokens.expect_sign(Sign::SLeftBrace)?;
@@ -31,19 +36,17 @@ impl<F: Fn(Global, &mut Tokens<'_>, usize, Wanted) -> Result<Expr, Failure>> Gra
     }
 
     /// A set by its value.
-    #[tactic(auto, unfolding(crate::specs::Parser::and_then))]
+    #[tactic(auto, unfolding(zim_parse_expression::specs::Parser::and_then))]
     fn set_value(&self, tokens: &mut Tokens<'_>) -> Result<SetSide, Failure>
-        requires { Nests self.now.depth (F.pre self.now.inner) (F.post self.now.inner) }
         ensures { Gives (spec.set_value (parse self.now.depth) tokens.old) result tokens.new }
     {
-        let value = self.inner(tokens, Wanted::Sum)?;
+        let value = self.boxed(tokens, Wanted::Sum)?;
         Ok(SetSide::Value(value))
     }
 
     /// A call of `powerset` or `subsets`.
-    #[tactic(auto, unfolding(crate::specs::Parser::and_then))]
+    #[tactic(auto, unfolding(zim_parse_expression::specs::Parser::and_then))]
     fn family(&self, tokens: &mut Tokens<'_>) -> Result<SetSide, Failure>
-        requires { Nests self.now.depth (F.pre self.now.inner) (F.post self.now.inner) }
         ensures { Gives (spec.family_of (parse self.now.depth) tokens.old) result tokens.new }
     {
         let Some(first) = tokens.take() else {
@@ -57,13 +60,13 @@ impl<F: Fn(Global, &mut Tokens<'_>, usize, Wanted) -> Result<Expr, Failure>> Gra
         }
         tokens.expect(Class::LeftParen)?;
         let given = self.arguments(tokens)?;
-        Ok(SetSide::Value(Expr::Func(first.place, word, given)))
+        let call = Boxed::new(self.alloc, Expr::Func(first.place, word, given))?;
+        Ok(SetSide::Value(call))
     }
 
     /// What a set without brackets is declared to be.
-    #[tactic(auto, unfolding(crate::specs::StatementSteps::set_alone, crate::specs::Parser::and_then))]
+    #[tactic(auto, unfolding(crate::specs::StatementSteps::set_alone, zim_parse_expression::specs::Parser::and_then))]
     fn set_alone(&self, tokens: &mut Tokens<'_>) -> Result<SetSide, Failure>
-        requires { Nests self.now.depth (F.pre self.now.inner) (F.post self.now.inner) }
         ensures { Gives (steps.set_alone (parse self.now.depth) tokens.old) result tokens.new }
     {
         if tokens.begins_read() {
@@ -74,9 +77,8 @@ impl<F: Fn(Global, &mut Tokens<'_>, usize, Wanted) -> Result<Expr, Failure>> Gra
     }
 
     /// The sets of a family, each behind its index.
-    #[tactic(auto, unfolding(crate::specs::StatementSteps::set_entries, crate::specs::Parser::and_then))]
+    #[tactic(auto, unfolding(crate::specs::StatementSteps::set_entries, zim_parse_expression::specs::Parser::and_then))]
     fn set_entries(&self, tokens: &mut Tokens<'_>) -> Result<SetSide, Failure>
-        requires { Nests self.now.depth (F.pre self.now.inner) (F.post self.now.inner) }
         ensures { Gives (steps.set_entries (parse self.now.depth) tokens.old) result tokens.new }
     {
         let entries = self.entries(tokens)?;
@@ -84,13 +86,12 @@ impl<F: Fn(Global, &mut Tokens<'_>, usize, Wanted) -> Result<Expr, Failure>> Gra
     }
 
     /// A set behind its `:=`.
-    #[tactic(auto, unfolding(crate::specs::StatementSteps::set_end, crate::specs::StatementSteps::set_alone, crate::specs::StatementSteps::set_entries, crate::specs::StatementParser::set_side_of, crate::specs::Parser::and_then))]
+    #[tactic(auto, unfolding(crate::specs::StatementSteps::set_end, crate::specs::StatementSteps::set_alone, crate::specs::StatementSteps::set_entries, crate::specs::StatementParser::set_side_of, zim_parse_expression::specs::Parser::and_then))]
     pub fn set_end(
         &self,
         tokens: &mut Tokens<'_>,
         brackets: Option<Bracket>,
     ) -> Result<Shape, Failure>
-        requires { Nests self.now.depth (F.pre self.now.inner) (F.post self.now.inner) }
         ensures { Gives (steps.set_end (parse self.now.depth) brackets tokens.old) result tokens.new }
     {
         match brackets {
@@ -114,19 +115,17 @@ impl<F: Fn(Global, &mut Tokens<'_>, usize, Wanted) -> Result<Expr, Failure>> Gra
     }
 
     /// A parameter by its value.
-    #[tactic(auto, unfolding(crate::specs::Parser::and_then))]
+    #[tactic(auto, unfolding(zim_parse_expression::specs::Parser::and_then))]
     fn par_value(&self, tokens: &mut Tokens<'_>) -> Result<ParSide, Failure>
-        requires { Nests self.now.depth (F.pre self.now.inner) (F.post self.now.inner) }
         ensures { Gives (spec.par_value (parse self.now.depth) tokens.old) result tokens.new }
     {
-        let value = self.inner(tokens, Wanted::Disjunction)?;
+        let value = self.boxed(tokens, Wanted::Disjunction)?;
         Ok(ParSide::Value(value))
     }
 
     /// A parameter that is read, with a default.
-    #[tactic(auto, unfolding(crate::specs::Parser::and_then))]
+    #[tactic(auto, unfolding(zim_parse_expression::specs::Parser::and_then))]
     fn par_read(&self, tokens: &mut Tokens<'_>) -> Result<ParSide, Failure>
-        requires { Nests self.now.depth (F.pre self.now.inner) (F.post self.now.inner) }
         ensures { Gives (spec.par_read (parse self.now.depth) tokens.old) result tokens.new }
     {
         let reading = self.reading(tokens)?;
@@ -135,9 +134,8 @@ impl<F: Fn(Global, &mut Tokens<'_>, usize, Wanted) -> Result<Expr, Failure>> Gra
     }
 
     /// A parameter without index that is read.
-    #[tactic(auto, unfolding(crate::specs::Parser::and_then))]
+    #[tactic(auto, unfolding(zim_parse_expression::specs::Parser::and_then))]
     fn par_read_alone(&self, tokens: &mut Tokens<'_>) -> Result<ParSide, Failure>
-        requires { Nests self.now.depth (F.pre self.now.inner) (F.post self.now.inner) }
         ensures { Gives (spec.par_read_alone (parse self.now.depth) tokens.old) result tokens.new }
     {
         let reading = self.reading(tokens)?;
@@ -145,9 +143,8 @@ impl<F: Fn(Global, &mut Tokens<'_>, usize, Wanted) -> Result<Expr, Failure>> Gra
     }
 
     /// What a parameter without brackets is declared to be.
-    #[tactic(auto, unfolding(crate::specs::StatementSteps::par_alone, crate::specs::Parser::and_then))]
+    #[tactic(auto, unfolding(crate::specs::StatementSteps::par_alone, zim_parse_expression::specs::Parser::and_then))]
     fn par_alone(&self, tokens: &mut Tokens<'_>) -> Result<ParSide, Failure>
-        requires { Nests self.now.depth (F.pre self.now.inner) (F.post self.now.inner) }
         ensures { Gives (steps.par_alone (parse self.now.depth) tokens.old) result tokens.new }
     {
         if tokens.sees_word(Word::WRead) {
@@ -158,9 +155,8 @@ impl<F: Fn(Global, &mut Tokens<'_>, usize, Wanted) -> Result<Expr, Failure>> Gra
     }
 
     /// A parameter in a table, with a default.
-    #[tactic(auto, unfolding(crate::specs::Parser::and_then))]
+    #[tactic(auto, unfolding(zim_parse_expression::specs::Parser::and_then))]
     fn par_table(&self, tokens: &mut Tokens<'_>) -> Result<ParSide, Failure>
-        requires { Nests self.now.depth (F.pre self.now.inner) (F.post self.now.inner) }
         ensures { Gives (spec.par_table (parse self.now.depth) tokens.old) result tokens.new }
     {
         tokens.expect_sign(Sign::SBar)?;
@@ -170,9 +166,8 @@ impl<F: Fn(Global, &mut Tokens<'_>, usize, Wanted) -> Result<Expr, Failure>> Gra
     }
 
     /// A parameter by its entries, with a default.
-    #[tactic(auto, unfolding(crate::specs::Parser::and_then))]
+    #[tactic(auto, unfolding(zim_parse_expression::specs::Parser::and_then))]
     fn par_entries(&self, tokens: &mut Tokens<'_>) -> Result<ParSide, Failure>
-        requires { Nests self.now.depth (F.pre self.now.inner) (F.post self.now.inner) }
         ensures { Gives (spec.par_entries (parse self.now.depth) tokens.old) result tokens.new }
     {
         let entries = self.entries(tokens)?;
@@ -181,20 +176,18 @@ impl<F: Fn(Global, &mut Tokens<'_>, usize, Wanted) -> Result<Expr, Failure>> Gra
     }
 
     /// A parameter by its default alone.
-    #[tactic(auto, unfolding(crate::specs::Parser::and_then))]
+    #[tactic(auto, unfolding(zim_parse_expression::specs::Parser::and_then))]
     fn par_default(&self, tokens: &mut Tokens<'_>) -> Result<ParSide, Failure>
-        requires { Nests self.now.depth (F.pre self.now.inner) (F.post self.now.inner) }
         ensures { Gives (spec.par_default (parse self.now.depth) tokens.old) result tokens.new }
     {
         let place = tokens.expect_word(Word::WDefault)?;
-        let value = self.inner(tokens, Wanted::Sum)?;
+        let value = self.boxed(tokens, Wanted::Sum)?;
         Ok(ParSide::Default(place, value))
     }
 
     /// What a parameter over a set is declared to be.
-    #[tactic(auto, unfolding(crate::specs::StatementSteps::par_listed, crate::specs::Parser::and_then))]
+    #[tactic(auto, unfolding(crate::specs::StatementSteps::par_listed, zim_parse_expression::specs::Parser::and_then))]
     fn par_listed(&self, tokens: &mut Tokens<'_>) -> Result<ParSide, Failure>
-        requires { Nests self.now.depth (F.pre self.now.inner) (F.post self.now.inner) }
         ensures { Gives (steps.par_listed (parse self.now.depth) tokens.old) result tokens.new }
     {
         if tokens.sees_word(Word::WDefault) {
@@ -209,13 +202,12 @@ impl<F: Fn(Global, &mut Tokens<'_>, usize, Wanted) -> Result<Expr, Failure>> Gra
     }
 
     /// A parameter behind its `:=`.
-    #[tactic(auto, unfolding(crate::specs::StatementSteps::param_end, crate::specs::StatementSteps::par_alone, crate::specs::StatementSteps::par_listed, crate::specs::StatementParser::par_side_of, crate::specs::Parser::and_then))]
+    #[tactic(auto, unfolding(crate::specs::StatementSteps::param_end, crate::specs::StatementSteps::par_alone, crate::specs::StatementSteps::par_listed, crate::specs::StatementParser::par_side_of, zim_parse_expression::specs::Parser::and_then))]
     pub fn param_end(
         &self,
         tokens: &mut Tokens<'_>,
         brackets: Option<Bracket>,
     ) -> Result<Shape, Failure>
-        requires { Nests self.now.depth (F.pre self.now.inner) (F.post self.now.inner) }
         ensures { Gives (steps.param_end (parse self.now.depth) brackets tokens.old) result tokens.new }
     {
         match brackets {
@@ -236,24 +228,22 @@ impl<F: Fn(Global, &mut Tokens<'_>, usize, Wanted) -> Result<Expr, Failure>> Gra
     }
 
     /// What stands in brackets: an index or a set.
-    #[tactic(auto, unfolding(crate::specs::StatementSteps::bracket_inside, crate::specs::Parser::and_then))]
+    #[tactic(auto, unfolding(crate::specs::StatementSteps::bracket_inside, zim_parse_expression::specs::Parser::and_then))]
     fn bracket_inside(&self, tokens: &mut Tokens<'_>) -> Result<Bracket, Failure>
-        requires { Nests self.now.depth (F.pre self.now.inner) (F.post self.now.inner) }
         ensures { Gives (steps.bracket_inside (parse self.now.depth) tokens.old) result tokens.new }
     {
         if tokens.begins_less() {
-            let index = Boxed::new(self.alloc, self.index(tokens)?)?;
+            let index = self.index(tokens)?;
             Ok(Bracket::Loop(index))
         } else {
-            let set = self.inner_boxed(tokens, Wanted::Sum)?;
+            let set = self.boxed(tokens, Wanted::Sum)?;
             Ok(Bracket::Over(set))
         }
     }
 
     /// What stands behind `[`, and `]`.
-    #[tactic(auto, using(crate::proofs::StepLemmas::bracket_next), unfolding(crate::specs::Parser::and_then))]
+    #[tactic(auto, using(crate::proofs::StatementForms::bracket_next), unfolding(zim_parse_expression::specs::Parser::and_then))]
     fn bracket(&self, tokens: &mut Tokens<'_>) -> Result<Bracket, Failure>
-        requires { Nests self.now.depth (F.pre self.now.inner) (F.post self.now.inner) }
         ensures { Gives (spec.bracket_of (parse self.now.depth) tokens.old) result tokens.new }
     {
         let inside = self.bracket_inside(tokens)?;
@@ -262,9 +252,8 @@ impl<F: Fn(Global, &mut Tokens<'_>, usize, Wanted) -> Result<Expr, Failure>> Gra
     }
 
     /// Brackets that aren't empty, or none.
-    #[tactic(auto, unfolding(crate::specs::StatementParser::brackets_of, crate::specs::Parser::and_then))]
+    #[tactic(auto, unfolding(crate::specs::StatementParser::brackets_of, zim_parse_expression::specs::Parser::and_then))]
     pub fn brackets(&self, tokens: &mut Tokens<'_>) -> Result<Option<Bracket>, Failure>
-        requires { Nests self.now.depth (F.pre self.now.inner) (F.post self.now.inner) }
         ensures { Gives (spec.brackets_of (parse self.now.depth) tokens.old) result tokens.new }
     {
         if tokens.eat_sign(Sign::SLeftBracket).is_none() {
@@ -275,9 +264,8 @@ impl<F: Fn(Global, &mut Tokens<'_>, usize, Wanted) -> Result<Expr, Failure>> Gra
     }
 
     /// Brackets that may be empty, or none.
-    #[tactic(auto, unfolding(crate::specs::StatementParser::set_brackets_of, crate::specs::Parser::and_then))]
+    #[tactic(auto, unfolding(crate::specs::StatementParser::set_brackets_of, zim_parse_expression::specs::Parser::and_then))]
     pub fn set_brackets(&self, tokens: &mut Tokens<'_>) -> Result<Option<Bracket>, Failure>
-        requires { Nests self.now.depth (F.pre self.now.inner) (F.post self.now.inner) }
         ensures { Gives (spec.set_brackets_of (parse self.now.depth) tokens.old) result tokens.new }
     {
         if tokens.eat_sign(Sign::SLeftBracket).is_none() {
@@ -291,35 +279,31 @@ impl<F: Fn(Global, &mut Tokens<'_>, usize, Wanted) -> Result<Expr, Failure>> Gra
     }
 
     /// The next bound of a variable, if one comes next.
-    #[tactic(auto, unfolding(crate::specs::Turns::limit_turn, crate::specs::Parser::and_then))]
+    #[tactic(auto, unfolding(crate::specs::StatementTurns::limit_turn, zim_parse_expression::specs::Parser::and_then))]
     fn next_limit(&self, tokens: &mut Tokens<'_>) -> Result<Option<Limit>, Failure>
-        requires { Nests self.now.depth (F.pre self.now.inner) (F.post self.now.inner) }
         ensures { Gives (limit_turn (parse self.now.depth) tokens.old) result tokens.new }
     {
         let Some((place, lower)) = tokens.eat_limit() else {
             return Ok(None);
         };
-        let side = self.inner(tokens, Wanted::Sum)?;
+        let side = self.boxed(tokens, Wanted::Sum)?;
         Ok(Some(Limit { place, lower, side }))
     }
 
     /// The bounds of a variable that come next.
     fn limits(&self, tokens: &mut Tokens<'_>) -> Result<Items<Limit>, Failure>
-        requires { Nests self.now.depth (F.pre self.now.inner) (F.post self.now.inner) }
-        ensures { Gives (spec.limits_of (parse self.now.depth) (length tokens.old) tokens.old) result tokens.new }
+        ensures { Gives (repeat (limit_turn (parse self.now.depth)) (length tokens.old) tokens.old) result tokens.new }
     {
-        let mut limits = Items::new(self.alloc);
-        for _turn in 0..tokens.len() {
-            match self.next_limit(tokens)? {
-                None => return Ok(limits),
-                Some(limit) => limits.push(limit)?,
-            }
-        }
-        Ok(limits)
+        repeat(
+            self.alloc,
+            tokens,
+            tokens.len(),
+            |left| self.next_limit(left),
+        )
     }
 
     /// The options of a variable behind its bounds.
-    #[tactic(auto, unfolding(crate::specs::StatementSteps::var_end, crate::specs::Parser::and_then))]
+    #[tactic(auto, unfolding(crate::specs::StatementSteps::var_end, zim_parse_expression::specs::Parser::and_then))]
     fn variable_end(
         &self,
         tokens: &mut Tokens<'_>,
@@ -327,7 +311,6 @@ impl<F: Fn(Global, &mut Tokens<'_>, usize, Wanted) -> Result<Expr, Failure>> Gra
         kind: Option<Word>,
         limits: Items<Limit>,
     ) -> Result<Shape, Failure>
-        requires { Nests self.now.depth (F.pre self.now.inner) (F.post self.now.inner) }
         ensures { Gives (steps.var_end (parse self.now.depth) brackets kind limits tokens.old) result tokens.new }
     {
         let priority = self.given(tokens, Word::WPriority)?;
@@ -339,9 +322,8 @@ impl<F: Fn(Global, &mut Tokens<'_>, usize, Wanted) -> Result<Expr, Failure>> Gra
     }
 
     /// A variable behind its name.
-    #[tactic(auto, unfolding(crate::specs::StatementParser::var_of, crate::specs::StatementSteps::var_end, crate::specs::Parser::and_then))]
+    #[tactic(auto, using(crate::proofs::StatementTurns::limits_by_turns), unfolding(crate::specs::StatementParser::var_of, crate::specs::StatementSteps::var_end, zim_parse_expression::specs::Parser::and_then))]
     pub fn variable(&self, tokens: &mut Tokens<'_>) -> Result<Shape, Failure>
-        requires { Nests self.now.depth (F.pre self.now.inner) (F.post self.now.inner) }
         ensures { Gives (spec.var_of (parse self.now.depth) tokens.old) result tokens.new }
     {
         let brackets = self.brackets(tokens)?;

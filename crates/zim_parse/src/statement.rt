@@ -1,20 +1,18 @@
 //! Statements.
 
 ghost use Rattle.std.specs.Prelude.{◌≡◌, length};
-ghost use Rattle.zim_parse.specs.Outcome.{Gives, Nests};
-ghost use Rattle.zim_parse.specs.Parser as parser;
-ghost use Rattle.zim_parse.specs.Parser.{parse};
+ghost use Rattle.zim_parse_expression.specs.Outcome.{Gives};
+ghost use Rattle.zim_parse_expression.specs.Parser as parser;
+ghost use Rattle.zim_parse_expression.specs.Parser.{parse};
 ghost use Rattle.zim_parse.specs.StatementParser as spec;
 ghost use Rattle.zim_parse.specs.StatementSteps as steps;
-ghost use Rattle.zim_parse.specs.Turns.{comma_turn};
 
-use crate::failure::Failure;
-use crate::grammar::{Grammar, Wanted};
-use crate::tokens::Tokens;
+use crate::grammar::Grammar;
 use sqlite_items::{Boxed, Items};
 use std::alloc::Global;
 use zim_fault::{Bytes, Duplicate, Place, Sign, Token, Word};
-use zim_tree::{Class, Doing, Expr, Printed, Shape, Stmt};
+use zim_parse_expression::{Failure, Tokens, Wanted, items_of};
+use zim_tree::{Class, Doing, Printed, Shape, Stmt};
 
 /// A name that comes next, with its place.
 #[tactic(auto, unfolding(crate::specs::StatementParser::name_of))]
@@ -30,66 +28,32 @@ fn name(tokens: &mut Tokens<'_>) -> Result<(Place, Bytes), Failure>
     }
 }
 
-/// One more name behind a comma, if a comma comes next.
-#[tactic(auto, unfolding(crate::specs::Turns::comma_turn, crate::specs::Parser::and_then))]
-fn next_name(tokens: &mut Tokens<'_>) -> Result<Option<(Place, Bytes)>, Failure>
-    ensures { Gives (comma_turn spec.name_of tokens.old) result tokens.new }
-{
-    if tokens.eat(Class::Comma).is_none() {
-        return Ok(None);
-    }
-    let item = name(tokens)?;
-    Ok(Some(item))
-}
-
-/// The names with commas between them of which the first was read.
-fn names_behind(
-    alloc: Global,
-    tokens: &mut Tokens<'_>,
-    first: (Place, Bytes),
-) -> Result<Items<(Place, Bytes)>, Failure>
-    ensures { Gives (parser.items_behind spec.name_of (length tokens.old) first tokens.old) result tokens.new }
-{
-    let mut items = Items::new(alloc);
-    items.push(first)?;
-    for _turn in 0..tokens.len() {
-        match next_name(tokens)? {
-            None => return Ok(items),
-            Some(item) => items.push(item)?,
-        }
-    }
-    Ok(items)
-}
-
 /// The parameters of a function behind `(`, and `)`.
-#[tactic(auto, unfolding(crate::specs::Parser::items_of, crate::specs::Parser::and_then))]
+#[tactic(auto, unfolding(zim_parse_expression::specs::Parser::items_of, zim_parse_expression::specs::Parser::and_then))]
 fn parameters(alloc: Global, tokens: &mut Tokens<'_>) -> Result<Items<(Place, Bytes)>, Failure>
     ensures { Gives (spec.parameters_of tokens.old) result tokens.new }
 {
     if tokens.eat(Class::RightParen).is_some() {
         return Ok(Items::new(alloc));
     }
-    let first = name(tokens)?;
-    let names = names_behind(alloc, tokens, first)?;
+    let names = items_of(alloc, tokens, |left| name(left))?;
     tokens.expect(Class::RightParen)?;
     Ok(names)
 }
 
-impl<F: Fn(Global, &mut Tokens<'_>, usize, Wanted) -> Result<Expr, Failure>> Grammar<F> {
+impl Grammar {
     /// A value that is printed.
-    #[tactic(auto, unfolding(crate::specs::StatementSteps::printed_value, crate::specs::Parser::and_then))]
+    #[tactic(auto, unfolding(crate::specs::StatementSteps::printed_value, zim_parse_expression::specs::Parser::and_then))]
     fn printed_value(&self, tokens: &mut Tokens<'_>) -> Result<Printed, Failure>
-        requires { Nests self.now.depth (F.pre self.now.inner) (F.post self.now.inner) }
         ensures { Gives (steps.printed_value (parse self.now.depth) tokens.old) result tokens.new }
     {
-        let value = self.inner(tokens, Wanted::Disjunction)?;
+        let value = self.boxed(tokens, Wanted::Disjunction)?;
         Ok(Printed::Value(value))
     }
 
     /// Something that begins with `<` and is printed: a tuple, unless `in` follows it.
-    #[tactic(auto, unfolding(crate::specs::StatementSteps::printed_less, crate::specs::StatementSteps::printed_value, crate::specs::Parser::and_then))]
+    #[tactic(auto, unfolding(crate::specs::StatementSteps::printed_less, crate::specs::StatementSteps::printed_value, zim_parse_expression::specs::Parser::and_then))]
     fn printed_less(&self, tokens: &mut Tokens<'_>) -> Result<Printed, Failure>
-        requires { Nests self.now.depth (F.pre self.now.inner) (F.post self.now.inner) }
         ensures { Gives (steps.printed_less (parse self.now.depth) tokens.old) result tokens.new }
     {
         let mut ahead = tokens.ahead();
@@ -102,9 +66,8 @@ impl<F: Fn(Global, &mut Tokens<'_>, usize, Wanted) -> Result<Expr, Failure>> Gra
     }
 
     /// Something that is printed.
-    #[tactic(auto, using(crate::proofs::StepLemmas::printed_next), unfolding(crate::specs::Parser::and_then))]
+    #[tactic(auto, using(crate::proofs::StatementForms::printed_next), unfolding(zim_parse_expression::specs::Parser::and_then))]
     fn printed(&self, tokens: &mut Tokens<'_>) -> Result<Printed, Failure>
-        requires { Nests self.now.depth (F.pre self.now.inner) (F.post self.now.inner) }
         ensures { Gives (spec.printed_of (parse self.now.depth) tokens.old) result tokens.new }
     {
         if tokens.begins_less() {
@@ -114,53 +77,16 @@ impl<F: Fn(Global, &mut Tokens<'_>, usize, Wanted) -> Result<Expr, Failure>> Gra
         }
     }
 
-    /// One more printed item behind a comma, if a comma comes next.
-    #[tactic(auto, unfolding(crate::specs::Turns::comma_turn, crate::specs::Parser::and_then))]
-    fn next_printed(&self, tokens: &mut Tokens<'_>) -> Result<Option<Printed>, Failure>
-        requires { Nests self.now.depth (F.pre self.now.inner) (F.post self.now.inner) }
-        ensures { Gives (comma_turn (spec.printed_of (parse self.now.depth)) tokens.old) result tokens.new }
-    {
-        if tokens.eat(Class::Comma).is_none() {
-            return Ok(None);
-        }
-        let item = self.printed(tokens)?;
-        Ok(Some(item))
-    }
-
-    /// The printed items of which the first was read.
-    fn printed_behind(
-        &self,
-        tokens: &mut Tokens<'_>,
-        first: Printed,
-    ) -> Result<Items<Printed>, Failure>
-        requires { Nests self.now.depth (F.pre self.now.inner) (F.post self.now.inner) }
-        ensures { Gives (parser.items_behind (spec.printed_of (parse self.now.depth)) (length tokens.old) first tokens.old) result tokens.new }
-    {
-        let mut items = Items::new(self.alloc);
-        items.push(first)?;
-        for _turn in 0..tokens.len() {
-            match self.next_printed(tokens)? {
-                None => return Ok(items),
-                Some(item) => items.push(item)?,
-            }
-        }
-        Ok(items)
-    }
-
     /// One or more printed items with commas between them.
-    #[tactic(auto, unfolding(crate::specs::Parser::items_of, crate::specs::Parser::and_then))]
     fn all_printed(&self, tokens: &mut Tokens<'_>) -> Result<Items<Printed>, Failure>
-        requires { Nests self.now.depth (F.pre self.now.inner) (F.post self.now.inner) }
         ensures { Gives (parser.items_of (spec.printed_of (parse self.now.depth)) tokens.old) result tokens.new }
     {
-        let first = self.printed(tokens)?;
-        self.printed_behind(tokens, first)
+        items_of(self.alloc, tokens, |left| self.printed(left))
     }
 
     /// What a `do` does, at most so many loops deep.
     #[cycle(doing)]
     fn doing(&self, tokens: &mut Tokens<'_>, loops: usize) -> Result<Doing, Failure>
-        requires { Nests self.now.depth (F.pre self.now.inner) (F.post self.now.inner) }
         ensures { Gives (spec.doing_of (parse self.now.depth) loops tokens.old) result tokens.new }
     {
         if loops == 0 {
@@ -170,10 +96,9 @@ impl<F: Fn(Global, &mut Tokens<'_>, usize, Wanted) -> Result<Expr, Failure>> Gra
     }
 
     /// What a `do` does, with at most so many loops behind the first.
-    #[tactic(auto, unfolding(crate::specs::StatementSteps::doing_by, crate::specs::Parser::and_then))]
+    #[tactic(auto, unfolding(crate::specs::StatementSteps::doing_by, zim_parse_expression::specs::Parser::and_then))]
     #[cycle(doing)]
     fn doing_by(&self, tokens: &mut Tokens<'_>, loops: usize) -> Result<Doing, Failure>
-        requires { Nests self.now.depth (F.pre self.now.inner) (F.post self.now.inner) }
         ensures { Gives (steps.doing_by (parse self.now.depth) (spec.doing_of (parse self.now.depth) loops) tokens.old) result tokens.new }
     {
         let Some(first) = tokens.take() else {
@@ -188,11 +113,11 @@ impl<F: Fn(Global, &mut Tokens<'_>, usize, Wanted) -> Result<Expr, Failure>> Gra
                 Ok(Doing::Print(first.place, items))
             }
             Word::WCheck => {
-                let test = self.inner(tokens, Wanted::Disjunction)?;
+                let test = self.boxed(tokens, Wanted::Disjunction)?;
                 Ok(Doing::Check(first.place, test))
             }
             Word::WForall => {
-                let index = Boxed::new(self.alloc, self.index(tokens)?)?;
+                let index = self.index(tokens)?;
                 let with_do = tokens.separator()?;
                 let inside = Boxed::new(self.alloc, self.doing(tokens, loops)?)?;
                 Ok(Doing::Forall(first.place, index, with_do, inside))
@@ -202,44 +127,40 @@ impl<F: Fn(Global, &mut Tokens<'_>, usize, Wanted) -> Result<Expr, Failure>> Gra
     }
 
     /// An objective behind its name.
-    #[tactic(auto, unfolding(crate::specs::Parser::and_then))]
+    #[tactic(auto, unfolding(zim_parse_expression::specs::Parser::and_then))]
     fn goal(&self, tokens: &mut Tokens<'_>, maximize: bool) -> Result<Shape, Failure>
-        requires { Nests self.now.depth (F.pre self.now.inner) (F.post self.now.inner) }
         ensures { Gives (spec.goal_of (parse self.now.depth) maximize tokens.old) result tokens.new }
     {
         tokens.expect_sign(Sign::SColon)?;
-        let objective = self.inner(tokens, Wanted::Sum)?;
+        let objective = self.boxed(tokens, Wanted::Sum)?;
         Ok(Shape::Goal(maximize, objective))
     }
 
     /// A constraint behind its name.
-    #[tactic(auto, unfolding(crate::specs::StatementSteps::constraint_of, crate::specs::Parser::and_then))]
+    #[tactic(auto, unfolding(crate::specs::StatementSteps::constraint_of, zim_parse_expression::specs::Parser::and_then))]
     fn constraint(&self, tokens: &mut Tokens<'_>) -> Result<Shape, Failure>
-        requires { Nests self.now.depth (F.pre self.now.inner) (F.post self.now.inner) }
         ensures { Gives (steps.constraint_of (parse self.now.depth) tokens.old) result tokens.new }
     {
         tokens.expect_sign(Sign::SColon)?;
-        let constraint = self.inner(tokens, Wanted::Whole)?;
+        let constraint = self.boxed(tokens, Wanted::Whole)?;
         Ok(Shape::Subto(constraint))
     }
 
     /// A function behind its name.
-    #[tactic(auto, unfolding(crate::specs::Parser::and_then))]
+    #[tactic(auto, unfolding(zim_parse_expression::specs::Parser::and_then))]
     fn definition(&self, tokens: &mut Tokens<'_>, word: Word) -> Result<Shape, Failure>
-        requires { Nests self.now.depth (F.pre self.now.inner) (F.post self.now.inner) }
         ensures { Gives (spec.definition_of (parse self.now.depth) word tokens.old) result tokens.new }
     {
         tokens.expect(Class::LeftParen)?;
         let parameters = parameters(self.alloc, tokens)?;
         tokens.expect_sign(Sign::SAssign)?;
-        let inside = self.inner(tokens, Wanted::Disjunction)?;
+        let inside = self.boxed(tokens, Wanted::Disjunction)?;
         Ok(Shape::Define(word, parameters, inside))
     }
 
     /// A set behind its name.
-    #[tactic(auto, unfolding(crate::specs::StatementSteps::set_of, crate::specs::Parser::and_then))]
+    #[tactic(auto, unfolding(crate::specs::StatementSteps::set_of, zim_parse_expression::specs::Parser::and_then))]
     fn set(&self, tokens: &mut Tokens<'_>) -> Result<Shape, Failure>
-        requires { Nests self.now.depth (F.pre self.now.inner) (F.post self.now.inner) }
         ensures { Gives (steps.set_of (parse self.now.depth) tokens.old) result tokens.new }
     {
         let brackets = self.set_brackets(tokens)?;
@@ -248,9 +169,8 @@ impl<F: Fn(Global, &mut Tokens<'_>, usize, Wanted) -> Result<Expr, Failure>> Gra
     }
 
     /// A parameter behind its name.
-    #[tactic(auto, unfolding(crate::specs::StatementSteps::param_of, crate::specs::Parser::and_then))]
+    #[tactic(auto, unfolding(crate::specs::StatementSteps::param_of, zim_parse_expression::specs::Parser::and_then))]
     fn param(&self, tokens: &mut Tokens<'_>) -> Result<Shape, Failure>
-        requires { Nests self.now.depth (F.pre self.now.inner) (F.post self.now.inner) }
         ensures { Gives (steps.param_of (parse self.now.depth) tokens.old) result tokens.new }
     {
         let brackets = self.brackets(tokens)?;
@@ -259,9 +179,8 @@ impl<F: Fn(Global, &mut Tokens<'_>, usize, Wanted) -> Result<Expr, Failure>> Gra
     }
 
     /// What a statement that begins with this word says of its name.
-    #[tactic(auto, unfolding(crate::specs::StatementSteps::set_of, crate::specs::StatementSteps::set_end, crate::specs::StatementSteps::param_of, crate::specs::StatementSteps::param_end, crate::specs::StatementSteps::constraint_of, crate::specs::Parser::and_then))]
+    #[tactic(auto, unfolding(crate::specs::StatementSteps::set_of, crate::specs::StatementSteps::set_end, crate::specs::StatementSteps::param_of, crate::specs::StatementSteps::param_end, crate::specs::StatementSteps::constraint_of, zim_parse_expression::specs::Parser::and_then))]
     fn declared(&self, tokens: &mut Tokens<'_>, word: Word) -> Result<Shape, Failure>
-        requires { Nests self.now.depth (F.pre self.now.inner) (F.post self.now.inner) }
         ensures { Gives (spec.declared_of (parse self.now.depth) word tokens.old) result tokens.new }
     {
         match word {
@@ -279,9 +198,8 @@ impl<F: Fn(Global, &mut Tokens<'_>, usize, Wanted) -> Result<Expr, Failure>> Gra
     }
 
     /// A `do` behind its word.
-    #[tactic(auto, unfolding(crate::specs::StatementSteps::performed_of, crate::specs::Parser::and_then))]
+    #[tactic(auto, unfolding(crate::specs::StatementSteps::performed_of, zim_parse_expression::specs::Parser::and_then))]
     fn performed(&self, tokens: &mut Tokens<'_>, first: Place) -> Result<Stmt, Failure>
-        requires { Nests self.now.depth (F.pre self.now.inner) (F.post self.now.inner) }
         ensures { Gives (steps.performed_of (parse self.now.depth) first tokens.old) result tokens.new }
     {
         let loops = tokens.len();
@@ -290,23 +208,22 @@ impl<F: Fn(Global, &mut Tokens<'_>, usize, Wanted) -> Result<Expr, Failure>> Gra
             first,
             at: first,
             name: Bytes::new(self.alloc),
-            shape: Shape::Do(doing),
+            shape: Boxed::new(self.alloc, Shape::Do(doing))?,
         })
     }
 
     /// A declaration behind its word.
-    #[tactic(auto, unfolding(crate::specs::StatementSteps::declaration_of, crate::specs::Parser::and_then))]
+    #[tactic(auto, unfolding(crate::specs::StatementSteps::declaration_of, zim_parse_expression::specs::Parser::and_then))]
     fn declaration(
         &self,
         tokens: &mut Tokens<'_>,
         first: Place,
         word: Word,
     ) -> Result<Stmt, Failure>
-        requires { Nests self.now.depth (F.pre self.now.inner) (F.post self.now.inner) }
         ensures { Gives (steps.declaration_of (parse self.now.depth) first word tokens.old) result tokens.new }
     {
         let (at, name) = name(tokens)?;
-        let shape = self.declared(tokens, word)?;
+        let shape = Boxed::new(self.alloc, self.declared(tokens, word)?)?;
         Ok(Stmt {
             first,
             at,
@@ -316,14 +233,13 @@ impl<F: Fn(Global, &mut Tokens<'_>, usize, Wanted) -> Result<Expr, Failure>> Gra
     }
 
     /// A statement without its `;`, behind its first token.
-    #[tactic(auto, unfolding(crate::specs::StatementSteps::performed_of, crate::specs::StatementSteps::declaration_of, crate::specs::Parser::and_then))]
+    #[tactic(auto, unfolding(crate::specs::StatementSteps::performed_of, crate::specs::StatementSteps::declaration_of, zim_parse_expression::specs::Parser::and_then))]
     fn behind_first(
         &self,
         tokens: &mut Tokens<'_>,
         first: Place,
         word: Word,
     ) -> Result<Stmt, Failure>
-        requires { Nests self.now.depth (F.pre self.now.inner) (F.post self.now.inner) }
         ensures { Gives (spec.behind_word (parse self.now.depth) first word tokens.old) result tokens.new }
     {
         match word {
@@ -333,9 +249,8 @@ impl<F: Fn(Global, &mut Tokens<'_>, usize, Wanted) -> Result<Expr, Failure>> Gra
     }
 
     /// A statement with its `;`.
-    #[tactic(auto, unfolding(crate::specs::StatementParser::statement_of, crate::specs::Parser::and_then))]
-    pub fn statement(&self, tokens: &mut Tokens<'_>) -> Result<Boxed<Stmt>, Failure>
-        requires { Nests self.now.depth (F.pre self.now.inner) (F.post self.now.inner) }
+    #[tactic(auto, unfolding(crate::specs::StatementParser::statement_of, zim_parse_expression::specs::Parser::and_then))]
+    pub fn statement(&self, tokens: &mut Tokens<'_>) -> Result<Stmt, Failure>
         ensures { Gives (spec.statement_of (parse self.now.depth) tokens.old) result tokens.new }
     {
         let Some(first) = tokens.take() else {
@@ -344,7 +259,7 @@ impl<F: Fn(Global, &mut Tokens<'_>, usize, Wanted) -> Result<Expr, Failure>> Gra
         let Token::Word(word) = first.token else {
             return Err(Failure::Syntax);
         };
-        let stmt = Boxed::new(self.alloc, self.behind_first(tokens, first.place, word)?)?;
+        let stmt = self.behind_first(tokens, first.place, word)?;
         tokens.expect_sign(Sign::SSemicolon)?;
         Ok(stmt)
     }

@@ -14,4 +14,4 @@ returns-then-len-ne0 c = λ _ other d.
     too_little_read c.args.tokens.now c.in_ok-stmt.stmt c.statement.new.tokens (rw c.new-rest.ensures at c.in_ok-stmt.ensures) (λ z. c.if-len-ne0.true (omega arith)) other d
 
 pub returns : goal.returns
-returns c = rw c.into_inner.ensures (whole_read c.args.tokens.now c.in_ok-stmt.stmt c.statement.new.tokens (rw c.new-rest.ensures at c.in_ok-stmt.ensures) (omega arith))
+returns c = whole_read c.args.tokens.now c.in_ok-stmt.stmt c.statement.new.tokens (rw c.new-rest.ensures at c.in_ok-stmt.ensures) (omega arith)

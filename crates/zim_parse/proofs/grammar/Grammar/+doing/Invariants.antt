@@ -3,7 +3,7 @@ use Rattle.std.proofs.Common.{◌+◌, ◌*◌}
 use Rattle.zim_parse.proofs.grammar.Grammar.+doing.Given as goal
 
 abbrev pub decreases-doing : goal.decreases-doing
-decreases-doing g l = 2 * l.loops
+decreases-doing l = 2 * l.loops
 
 abbrev pub decreases-doing_by : goal.decreases-doing_by
-decreases-doing_by g l = 2 * l.loops + 1
+decreases-doing_by l = 2 * l.loops + 1

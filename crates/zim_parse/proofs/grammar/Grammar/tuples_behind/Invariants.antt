@@ -1,9 +1,0 @@
--- The items so far, and those that the turns that are left read.
-use Rattle.std.proofs.Common.{◌≡◌, ◌-◌, length}
-use Rattle.zim_parse.specs.Parser.{parse, tuple_of, items_behind}
-use Rattle.zim_parse.specs.Turns.{repeat, prepend, comma_turn}
-use Rattle.zim_parse.proofs.grammar.Grammar.tuples_behind.Given as goal
-
-abbrev pub invariant-loop-turn : goal.invariant-loop-turn
-invariant-loop-turn g l =
-    items_behind (tuple_of (parse l.self.depth)) (length l.fn.tokens) l.fn.first l.fn.tokens ≡ prepend l.items (repeat (comma_turn (tuple_of (parse l.self.depth))) (l._turn-end - l._turn) l.tokens)

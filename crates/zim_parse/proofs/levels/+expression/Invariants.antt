@@ -1,4 +1,0 @@
-use Rattle.zim_parse.proofs.levels.+expression.Given as goal
-
-abbrev pub decreases-expression : goal.decreases-expression
-decreases-expression l = l.depth

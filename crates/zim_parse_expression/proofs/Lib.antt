@@ -1,0 +1,16 @@
+pub mod BeginningLaws
+pub mod ListLaws
+pub mod PrimaryLaws
+pub mod BodySteps
+pub mod LevelSteps
+pub mod ChainSteps
+pub mod CompletenessLaws
+pub mod InversionLaws
+pub mod PrimarySoundLaws
+pub mod LevelSound
+pub mod SoundnessLaws
+pub mod OneTreeLaws
+pub mod TurnLaws
+pub mod StepLemmas
+pub mod Grouping
+pub mod FlatSums

@@ -1,0 +1,71 @@
+//! Lists, each of any items.
+
+ghost use Rattle.std.specs.Prelude.{length};
+ghost use Rattle.zim_parse_expression.specs.Outcome.{Gives, IsParser, IsTurn};
+ghost use Rattle.zim_parse_expression.specs.Parser as spec;
+ghost use Rattle.zim_parse_expression.specs.Parser.{Parser};
+ghost use Rattle.zim_parse_expression.specs.Turns.{Turn, repeat};
+
+use crate::failure::Failure;
+use crate::tokens::Tokens;
+use sqlite_items::Items;
+use std::alloc::Global;
+use zim_tree::Class;
+
+/// The items that at most so many turns read, up to one that finds none.
+pub fn repeat<A: Drop, T: Fn(&mut Tokens<'_>) -> Result<Option<A>, Failure>>(
+    alloc: Global,
+    tokens: &mut Tokens<'_>,
+    turns: usize,
+    turn: T,
+) -> Result<Items<A>, Failure>
+    requires { T.IsAlwaysCallable turn }
+    ensures { (of : Turn A) → IsTurn of (T.post turn) → Gives (repeat of turns tokens.old) result tokens.new }
+{
+    let mut items = Items::new(alloc);
+    for _turn in 0..turns {
+        match turn(tokens)? {
+            None => return Ok(items),
+            Some(item) => items.push(item)?,
+        }
+    }
+    Ok(items)
+}
+
+/// The items with commas between them of which the first was read.
+pub fn items_behind<A: Drop, I: Fn(&mut Tokens<'_>) -> Result<A, Failure>>(
+    alloc: Global,
+    tokens: &mut Tokens<'_>,
+    first: A,
+    item: I,
+) -> Result<Items<A>, Failure>
+    requires { I.IsAlwaysCallable item }
+    ensures { (of : Parser A) → IsParser of (I.post item) → Gives (spec.items_behind of (length tokens.old) first tokens.old) result tokens.new }
+{
+    let mut items = Items::new(alloc);
+    items.push(first)?;
+    for _turn in 0..tokens.len() {
+        match tokens.eat(Class::Comma) {
+            None => return Ok(items),
+            Some(_comma) => {
+                let next = item(tokens)?;
+                items.push(next)?;
+            }
+        }
+    }
+    Ok(items)
+}
+
+/// One or more items with commas between them.
+#[tactic(auto, unfolding(crate::specs::Parser::items_of, crate::specs::Parser::and_then))]
+pub fn items_of<A: Drop, I: Fn(&mut Tokens<'_>) -> Result<A, Failure>>(
+    alloc: Global,
+    tokens: &mut Tokens<'_>,
+    item: I,
+) -> Result<Items<A>, Failure>
+    requires { I.IsAlwaysCallable item }
+    ensures { (of : Parser A) → IsParser of (I.post item) → Gives (spec.items_of of tokens.old) result tokens.new }
+{
+    let first = item(tokens)?;
+    items_behind(alloc, tokens, first, item)
+}
