@@ -4,5 +4,3 @@ pub mod Sums
 pub mod Multiples
 pub mod Ends
 pub mod Integers
-pub mod Ground
-pub mod GroundRules

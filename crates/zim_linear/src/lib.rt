@@ -4,17 +4,11 @@
 //! the multiple of forms are described by their number at every assignment of the columns, the bounds
 //! by what the terms come to where each column lies between its sides. No number is rounded: where one
 //! passes the limit of a `Fraction`, the answer is `Past`.
-//!
-//! Ground trees (`GTerm`, `GCond`, `GCon`) are what a model's terms, conditions and constraints are once
-//! each constant is its value and each variable a column. `specs/Ground` says their number and their
-//! truth at an assignment.
 #![tactic(auto)]
 
-mod copy;
 mod ends;
 mod faults;
 mod form;
-mod ground;
 mod integers;
 mod multiple;
 mod sides;
@@ -25,7 +19,6 @@ mod tests;
 pub use ends::bounds;
 pub use faults::LinFault;
 pub use form::{Form, Term};
-pub use ground::{GCon, GCond, GTerm};
 pub use integers::{IntegerForm, integer_form};
 pub use multiple::scale;
 pub use sides::Sides;

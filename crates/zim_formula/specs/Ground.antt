@@ -8,9 +8,9 @@ use Rattle.zim_fault.specs.declared.tokens.Join.TheVariants.{And, Or, Xor}
 use Rattle.zim_rational.specs.Rational.{Rational, plus, minus, negate, times, over, total, at_most, below, same}
 use Rattle.zim_rational.specs.Rounding.{absolute}
 use Rattle.zim_linear.specs.Forms.{Assignment}
-use Rattle.zim_linear.specs.declared.ground.GTerm.{GTerm, GTerm-F, fold-GTerm}
-use Rattle.zim_linear.specs.declared.ground.GCond.{GCond, GCond-F, fold-GCond}
-use Rattle.zim_linear.specs.declared.ground.GCon.{GCon, GCon-F, fold-GCon}
+use Rattle.zim_formula.specs.declared.ground.GTerm.{GTerm, GTerm-F, fold-GTerm}
+use Rattle.zim_formula.specs.declared.ground.GCond.{GCond, GCond-F, fold-GCond}
+use Rattle.zim_formula.specs.declared.ground.GCon.{GCon, GCon-F, fold-GCon}
 
 -- numbers added to a sum, or taken from it where their flag is set
 unfoldable pub sum_from : Rational → List (Place × Bool × Rational) → Rational

@@ -6,13 +6,13 @@ use Rattle.zim_fault.specs.declared.tokens.Join.{Join}
 use Rattle.zim_rational.specs.Rational.{Rational, negate, total}
 use Rattle.zim_rational.specs.Rounding.{absolute}
 use Rattle.zim_linear.specs.Forms.{Assignment}
-use Rattle.zim_linear.specs.Ground.{sum_from, product_from, with_factor, term_step, term_number, related, chain_from, condition_step, condition_holds, all_hold, otherwise_holds, constraint_step, constraint_holds}
-use Rattle.zim_linear.specs.declared.ground.GTerm.{GTerm, GTerm-F, roll-GTerm, map-GTerm, fold-roll-GTerm}
-use Rattle.zim_linear.specs.declared.ground.GTerm.TheVariants as term
-use Rattle.zim_linear.specs.declared.ground.GCond.{GCond, GCond-F, roll-GCond, map-GCond, fold-roll-GCond}
-use Rattle.zim_linear.specs.declared.ground.GCond.TheVariants as condition
-use Rattle.zim_linear.specs.declared.ground.GCon.{GCon, GCon-F, roll-GCon, map-GCon, fold-roll-GCon}
-use Rattle.zim_linear.specs.declared.ground.GCon.TheVariants as constraint
+use Rattle.zim_formula.specs.Ground.{sum_from, product_from, with_factor, term_step, term_number, related, chain_from, condition_step, condition_holds, all_hold, otherwise_holds, constraint_step, constraint_holds}
+use Rattle.zim_formula.specs.declared.ground.GTerm.{GTerm, GTerm-F, roll-GTerm, map-GTerm, fold-roll-GTerm}
+use Rattle.zim_formula.specs.declared.ground.GTerm.TheVariants as term
+use Rattle.zim_formula.specs.declared.ground.GCond.{GCond, GCond-F, roll-GCond, map-GCond, fold-roll-GCond}
+use Rattle.zim_formula.specs.declared.ground.GCond.TheVariants as condition
+use Rattle.zim_formula.specs.declared.ground.GCon.{GCon, GCon-F, roll-GCon, map-GCon, fold-roll-GCon}
+use Rattle.zim_formula.specs.declared.ground.GCon.TheVariants as constraint
 
 -- ---- terms
 

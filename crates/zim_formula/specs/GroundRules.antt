@@ -6,10 +6,10 @@ use Rattle.zim_fault.specs.declared.tokens.Relation.{Relation}
 use Rattle.zim_fault.specs.declared.tokens.Relation.TheVariants.{LessThan, AtMost, EqualTo, NotEqualTo, AtLeast, GreaterThan}
 use Rattle.zim_fault.specs.declared.tokens.Join.{Join}
 use Rattle.zim_rational.specs.Rational.{Rational, zero, same}
-use Rattle.zim_linear.specs.Ground.{all_hold, otherwise_holds}
-use Rattle.zim_linear.specs.declared.ground.GTerm.{GTerm, GTerm-F, fold-GTerm}
-use Rattle.zim_linear.specs.declared.ground.GCond.{GCond, GCond-F, fold-GCond}
-use Rattle.zim_linear.specs.declared.ground.GCon.{GCon, GCon-F, fold-GCon}
+use Rattle.zim_formula.specs.Ground.{all_hold, otherwise_holds}
+use Rattle.zim_formula.specs.declared.ground.GTerm.{GTerm, GTerm-F, fold-GTerm}
+use Rattle.zim_formula.specs.declared.ground.GCond.{GCond, GCond-F, fold-GCond}
+use Rattle.zim_formula.specs.declared.ground.GCon.{GCon, GCon-F, fold-GCon}
 
 -- none of the numbers that are divisors is 0
 unfoldable pub divides : List (Place × Bool × Rational) → Bool

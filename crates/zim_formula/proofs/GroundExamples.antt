@@ -6,13 +6,13 @@ use Rattle.zim_rational.specs.Gcd.{gcd, euclid}
 use Rattle.zim_rational.specs.Rational.{Rational, zero, whole, ratio, plus, minus, negate, times, over, reciprocal, at_most, same, same_from_parts}
 use Rattle.zim_rational.specs.Rounding.{absolute}
 use Rattle.zim_linear.specs.Forms.{Assignment}
-use Rattle.zim_linear.specs.Ground.{sum_from, product_from, with_factor, term_number, related, otherwise_holds, constraint_holds}
-use Rattle.zim_linear.specs.declared.ground.GTerm.{GTerm}
-use Rattle.zim_linear.specs.declared.ground.GTerm.TheVariants as term
-use Rattle.zim_linear.specs.declared.ground.GCond.TheVariants as condition
-use Rattle.zim_linear.specs.declared.ground.GCon.{GCon}
-use Rattle.zim_linear.specs.declared.ground.GCon.TheVariants as constraint
-use Rattle.zim_linear.proofs.GroundLemmas.{number-Known, number-Column, number-Sum, number-Product, number-Abs, truth-Compare, asked-Compare, asked-Vif}
+use Rattle.zim_formula.specs.Ground.{sum_from, product_from, with_factor, term_number, related, otherwise_holds, constraint_holds}
+use Rattle.zim_formula.specs.declared.ground.GTerm.{GTerm}
+use Rattle.zim_formula.specs.declared.ground.GTerm.TheVariants as term
+use Rattle.zim_formula.specs.declared.ground.GCond.TheVariants as condition
+use Rattle.zim_formula.specs.declared.ground.GCon.{GCon}
+use Rattle.zim_formula.specs.declared.ground.GCon.TheVariants as constraint
+use Rattle.zim_formula.proofs.GroundLaws.{number-Known, number-Column, number-Sum, number-Product, number-Abs, truth-Compare, asked-Compare, asked-Vif}
 
 here : Place
 here = record { file = 0; line = 1 }

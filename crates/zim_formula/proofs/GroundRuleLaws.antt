@@ -4,14 +4,14 @@ use Rattle.zim_fault.specs.declared.faults.Place.{Place}
 use Rattle.zim_fault.specs.declared.tokens.Relation.{Relation}
 use Rattle.zim_fault.specs.declared.tokens.Join.{Join}
 use Rattle.zim_rational.specs.Rational.{Rational}
-use Rattle.zim_linear.specs.Ground.{all_hold, otherwise_holds}
-use Rattle.zim_linear.specs.GroundRules.{divides, operands_hold, joined_hold, is_column, term_rule, is_term_over, condition_rule, is_condition_over, is_row_relation, is_range_relation, constraint_rule, is_constraint_over}
-use Rattle.zim_linear.specs.declared.ground.GTerm.{GTerm, GTerm-F, roll-GTerm, map-GTerm, fold-roll-GTerm}
-use Rattle.zim_linear.specs.declared.ground.GTerm.TheVariants as term
-use Rattle.zim_linear.specs.declared.ground.GCond.{GCond, GCond-F, roll-GCond, map-GCond, fold-roll-GCond}
-use Rattle.zim_linear.specs.declared.ground.GCond.TheVariants as condition
-use Rattle.zim_linear.specs.declared.ground.GCon.{GCon, GCon-F, roll-GCon, map-GCon, fold-roll-GCon}
-use Rattle.zim_linear.specs.declared.ground.GCon.TheVariants as constraint
+use Rattle.zim_formula.specs.Ground.{all_hold, otherwise_holds}
+use Rattle.zim_formula.specs.GroundRules.{divides, operands_hold, joined_hold, is_column, term_rule, is_term_over, condition_rule, is_condition_over, is_row_relation, is_range_relation, constraint_rule, is_constraint_over}
+use Rattle.zim_formula.specs.declared.ground.GTerm.{GTerm, GTerm-F, roll-GTerm, map-GTerm, fold-roll-GTerm}
+use Rattle.zim_formula.specs.declared.ground.GTerm.TheVariants as term
+use Rattle.zim_formula.specs.declared.ground.GCond.{GCond, GCond-F, roll-GCond, map-GCond, fold-roll-GCond}
+use Rattle.zim_formula.specs.declared.ground.GCond.TheVariants as condition
+use Rattle.zim_formula.specs.declared.ground.GCon.{GCon, GCon-F, roll-GCon, map-GCon, fold-roll-GCon}
+use Rattle.zim_formula.specs.declared.ground.GCon.TheVariants as constraint
 
 -- ---- terms
 

@@ -26,7 +26,7 @@ pub enum GTerm {
 #[derive(Drop)]
 pub enum GCond {
     Known(bool),
-    Compare(Place, Relation, GTerm, GTerm),
+    Compare(Place, Relation, Boxed<GTerm>, Boxed<GTerm>),
     /// A first condition and those that are joined to it, from the left.
     Chain(Boxed<GCond>, Items<(Place, Join, GCond)>),
     Not(Place, Boxed<GCond>),
@@ -35,11 +35,11 @@ pub enum GCond {
 /// A constraint over terms.
 #[derive(Drop)]
 pub enum GCon {
-    Compare(Place, Relation, GTerm, GTerm),
+    Compare(Place, Relation, Boxed<GTerm>, Boxed<GTerm>),
     /// `a <= t <= b` or `a >= t >= b`, its ends as they are written.
-    Range(Place, Relation, Fraction, GTerm, Fraction),
+    Range(Place, Relation, Fraction, Boxed<GTerm>, Fraction),
     /// Each of its parts; without parts nothing is asked.
     And(Items<GCon>),
     /// The first constraint where the condition is true, else the second one, if there is one.
-    Vif(Place, GCond, Boxed<GCon>, Option<Boxed<GCon>>),
+    Vif(Place, Boxed<GCond>, Boxed<GCon>, Option<Boxed<GCon>>),
 }
