@@ -1,6 +1,6 @@
 -- The names in a model are fields of a line.
-use Rattle.std.proofs.Common.{◌≡◌, ℕ, ◌<◌, Bool, true, false, List, [], ◌∷◌, ◌++◌, length, map, Option, Some, None, refl, sym, ◌∙◌, ap, subst, arith, cond}
-use Rattle.std.specs.Prelude.{All, ⊤, ◌&&◌, ◌==◌, not, IfSome, option_map}
+use Rattle.std.proofs.Common.{◌≡◌, ℕ, ◌+◌, ◌<◌, Bool, true, false, List, [], ◌∷◌, ◌++◌, length, map, Option, Some, None, refl, sym, ◌∙◌, ap, subst, arith, cond}
+use Rattle.std.specs.Prelude.{All, ⊤, ◌&&◌, ◌==◌, not, IfSome, IsNone, option_map}
 use Rattle.std.specs.Option.{option_or}
 use Rattle.std.specs.List.{AllByRecursion, list_all, flat_map}
 use Rattle.std.specs.List.Sorted.{IsNonDecreasingBy}
@@ -35,6 +35,8 @@ use Rattle.zim_plain.specs.declared.plain_form.PlainModel.{PlainModel}
 use Rattle.zim_plain.specs.Statements.{Statement, Variable, Objective, Constraint, Model, variables, name_of}
 use Rattle.zim_plain.specs.Trees.{tree_of, trees_of}
 use Rattle.zim_plain.specs.Answers.{Says}
+use Rattle.zim_plain.specs.Meaning.{maximises}
+use Rattle.zim_plain.specs.Systems.{objective_position}
 use Rattle.zim_cli.specs.Outputs.{names_of_statements}
 use Rattle.zim_cli.specs.Parsed.{AreParsed}
 use Rattle.zim_cli.proofs.RowPositions.{position_there, rows_there, rows_rise}
@@ -161,6 +163,13 @@ objective_statement : (names : Names) (count : ℕ) (o : Option ℕ) → length 
 objective_statement names count None e fields low = tt
 objective_statement names count (Some position) e fields low = is_statement names position count e fields low
 
+-- a model without an objective isn't maximised
+aimless : (position : ℕ) (model : Model) → IsNone (objective_position position model) → maximises model ≡ false
+aimless position [] without = refl
+aimless position (Variable head ∷ model) without = aimless (position + 1) model without
+aimless position (Objective maximize head sum ∷ model) without = absurd (cc)
+aimless position (Constraint head left sense at right ∷ model) without = aimless (position + 1) model without
+
 -- what the lines of a model give can be listed
 pub can_be_listed : (lines : List Line) (placed : List Placed) (spans : List Span) (model : Model) (read : PlainModel) → AreTokens lines placed → AreParsed placed spans (trees_of model) → Says model read → CanBeListed (program_of read.system) read.variables (names_of_statements read)
 can_be_listed lines placed spans model read tokens parsed says =
@@ -180,4 +189,5 @@ can_be_listed lines placed spans model read tokens parsed says =
       rising = subst (IsNonDecreasingBy (λ (r : Row). r.from.statement)) rows (rows_rise (variables model) 0 model says.system.rows says.system_is.rows);
       objective = objective_statement names (length model) read.objective count fields
           (subst (λ (o : Option ℕ). IfSome o (λ (position : ℕ). position < length model)) (sym says.objective_is) (position_there 0 (length model) model (omega arith)));
+      aim = λ without. says.aim ∙ aimless 0 model (subst (λ (o : Option ℕ). IsNone o) says.objective_is without);
     }

@@ -1,11 +1,10 @@
--- Small systems with their texts, and small texts with what they say.
-use Rattle.std.proofs.Common.{◌≡◌, ℕ, true, false, List, [], ◌∷◌, map, Option, Some, None, refl, pos, negsuc}
+-- Small systems with their texts.
+use Rattle.std.proofs.Common.{◌≡◌, ℕ, true, false, List, [], ◌∷◌, Option, Some, None, refl, pos, negsuc}
 use Rattle.std.specs.Fmt.{digits}
-use Rattle.std.specs.Prelude.{codes, option_map, is_none}
+use Rattle.std.specs.Prelude.{codes}
 use Rattle.zim_rational.specs.Gcd.{gcd, euclid}
 use Rattle.zim_rational.specs.Rational.{Rational, ratio, negate, zero, one, whole, same}
 use Rattle.zim_decimal.specs.Short.{is_short, short_text, decimal_text, point_and, decimals}
-use Rattle.zim_instance.specs.Instance.{Instance}
 use Rattle.zim_linear.specs.Forms.{Term}
 use Rattle.zim_rows.specs.declared.rows.Column.{Column}
 use Rattle.zim_rows.specs.declared.rows.Row.{Row}
@@ -14,10 +13,8 @@ use Rattle.zim_rows.specs.declared.rows.RowKind.{RowKind}
 use Rattle.zim_rows.specs.declared.rows.RowKind.TheVariants.{One, Range}
 use Rattle.zim_rows.specs.declared.rows.Sense.TheVariants.{AtLeast, AtMost, Equal}
 use Rattle.zim_rows.specs.Program.{LinearProgram, no_target}
-use Rattle.zim_lp.specs.Numerals.{number_of_word}
 use Rattle.zim_lp.specs.FileText.{WrittenFile, file_text}
 use Rattle.zim_lp.specs.Text.{lp_text}
-use Rattle.zim_lp.specs.Reader.{lp}
 
 -- where a row of these examples comes from
 from_somewhere : RowFrom
@@ -157,50 +154,3 @@ each_part = record {
 each_part-text : file_text each_part ≡ codes "\\ zimplc\nMaximize\n obj: 2.5 n - 1 y\nSubject To\n r1: 1 n = -3\nBounds\n 1 <= n <= 2\n -inf <= y <= 4\n z >= -1\n w free\nGenerals\n n\nEnd\n"
 unfolding each_part
 each_part-text = refl
-
--- a text with a comment, a decimal number, each form of a bound and an integer column
-each_form : Option Instance
-each_form = lp (codes "\\ every form\nMaximize\n obj: 2.5 n - 1 y\nSubject To\n r: 1 n + 1 n = -3 \\ a row\nBounds\n 1 <= n <= 2.5\n -inf <= y <= 4\n z >= 1\n w free\nGenerals\n n\nEnd")
-
--- its columns; no other name has one
-each_form-columns : option_map (λ (i : Instance). map i.column (codes "n" ∷ codes "y" ∷ codes "z" ∷ codes "w" ∷ codes "v" ∷ [])) each_form ≡ Some (Some (record { integer = true; lower = Some (ratio (pos 1) 1); upper = Some (ratio (pos 25) 10) }) ∷ Some (record { integer = false; lower = None; upper = Some (ratio (pos 4) 1) }) ∷ Some (record { integer = false; lower = Some (ratio (pos 1) 1); upper = None }) ∷ Some (record { integer = false; lower = None; upper = None }) ∷ None ∷ [])
-unfolding each_form
-each_form-columns = refl
-
--- its rows
-each_form-rows : option_map (λ (i : Instance). i.rows) each_form ≡ Some (record { terms = record { name = codes "n"; coefficient = ratio (pos 1) 1 } ∷ record { name = codes "n"; coefficient = ratio (pos 1) 1 } ∷ []; low = Some (negate (ratio (pos 3) 1)); high = Some (negate (ratio (pos 3) 1)) } ∷ [])
-unfolding each_form
-each_form-rows = refl
-
--- a column without a bound is real and from 0 up
-no_bound : option_map (λ (i : Instance). i.column (codes "x")) (lp (codes "Minimize obj: 1 x Subject To Bounds End")) ≡ Some (Some (record { integer = false; lower = Some zero; upper = None }))
-no_bound = refl
-
--- texts that have no instance
-no_end : is_none (lp (codes "Minimize obj: 1 x Subject To Bounds")) ≡ true
-no_end = refl
-
-section_word_as_name : is_none (lp (codes "Minimize obj: 1 End Subject To Bounds End")) ≡ true
-section_word_as_name = refl
-
-no_coefficient : is_none (lp (codes "Minimize obj: x Subject To Bounds End")) ≡ true
-no_coefficient = refl
-
-no_name_under_generals : is_none (lp (codes "Minimize obj: 1 x Subject To Bounds Generals End")) ≡ true
-no_name_under_generals = refl
-
-words_behind_end : is_none (lp (codes "Minimize obj: 1 x Subject To Bounds End End")) ≡ true
-words_behind_end = refl
-
--- numbers
-short_decimal : number_of_word (codes "-0.25") ≡ Some (negate (ratio (pos 25) 100))
-short_decimal = refl
-
-no_digit_behind : is_none (number_of_word (codes "1.")) ≡ true
-no_digit_behind = refl
-
-no_digit_before : is_none (number_of_word (codes ".5")) ≡ true
-no_digit_before = refl
-
-two_points : is_none (number_of_word (codes "1.2.3")) ≡ true
-two_points = refl

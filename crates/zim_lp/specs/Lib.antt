@@ -6,3 +6,4 @@ pub mod Reader
 pub mod FileText
 pub mod Text
 pub mod Correct
+pub mod Examples

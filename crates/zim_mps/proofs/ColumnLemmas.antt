@@ -74,7 +74,7 @@ mark_next : (c : FileColumn) (cs : List FileColumn) (word : Field) → is_intege
 mark_next c cs word = marked_entries c.name word c.integer c.entries (flat_map said_column cs)
 
 -- a column's name is none of those of others
-abbrev IsOther : Field → List FileColumn → Type 0
+abbrev pub IsOther : Field → List FileColumn → Type 0
 IsOther name cs = AllByRecursion (λ (d : NamedColumn). bytes_eq name d.name ≡ false) (map named_of cs)
 
 other_mark : (name : Field) (cs : List FileColumn) → IsOther name cs → is_integer (flat_map said_column cs) name ≡ false

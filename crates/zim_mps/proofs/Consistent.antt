@@ -12,14 +12,15 @@ use Rattle.zim_rows.specs.declared.rows.Row.{Row}
 use Rattle.zim_rows.specs.declared.rows.RowKind as rows
 use Rattle.zim_rows.specs.declared.rows.RowKind.TheVariants.{One, Range}
 use Rattle.zim_rows.specs.declared.rows.Sense.TheVariants as sense
-use Rattle.zim_rows.specs.Program.{LinearProgram}
+use Rattle.zim_rows.specs.Program.{LinearProgram, IsRow}
 use Rattle.zim_rows.specs.Named as named
 use Rattle.zim_rows.specs.Named.{row_name}
-use Rattle.zim_mps.specs.Program.{Entry, Setting, Bound, is_among, are_distinct, is_free, is_at_least, names_of_rows, names_of_columns, is_integer, says_lower, says_upper, are_settings, is_marked_well, is_consistent, only_name}
+use Rattle.zim_mps.specs.Program.{Entry, Setting, Bound, is_among, are_distinct, is_free, is_at_least, names_of_rows, names_of_columns, is_integer, says_lower, says_upper, are_settings, is_marked_well, are_together, are_different_places, are_said_once, has_one_reading, is_consistent, only_name}
 use Rattle.zim_mps.specs.Text.{NumberedRow, FileColumn, file_columns}
 use Rattle.zim_mps.proofs.Said.{said_kind, said_row, said_entry, said_column, said_right, said_range_of, said_range, said_sides, said_bound, said, IsEntry, IsOverRows, over_rows, all_append}
 use Rattle.zim_mps.proofs.NameLemmas.{names_from, names_distinct, obj_no_row, or_true, among_names, rows_among, row_name_other}
-use Rattle.zim_mps.proofs.ColumnLemmas.{columns_named, names_of_file, names_of_lines, HasMark, all_marked}
+use Rattle.zim_mps.proofs.ColumnLemmas.{named_of, columns_named, names_of_file, names_of_lines, HasMark, all_marked}
+use Rattle.zim_mps.proofs.OnceLemmas.{columns_together, columns_apart, file_rising, columns_once, columns_read_one_way}
 
 -- ---- the names of the rows
 
@@ -207,10 +208,16 @@ columns_marked p (c ∷ cs) marks ends =
     (well, entries_marked p c.name c.integer c.entries well)
     (columns_marked p cs marks.1 ends.1)
 
+-- each lower end is said
+lower_said : (bounds : List Bound) (cs : List FileColumn) → AllByRecursion (AreSaid bounds) cs → AllByRecursion (λ (c : FileColumn). says_lower bounds c.name ≡ true) cs
+lower_said bounds [] all = tt
+lower_said bounds (c ∷ cs) all = (all.0.lower, lower_said bounds cs all.1)
+
 -- ---- all of it
 
-pub consistent : (p : LinearProgram) → 1 + length p.columns < 2 ^ 64 → 1 + length p.rows < 2 ^ 64 → HasDistinctNames (named.file_columns p) → is_consistent (said p) ≡ true
-consistent p few room names =
+pub consistent : (p : LinearProgram) → 1 + length p.columns < 2 ^ 64 → 1 + length p.rows < 2 ^ 64 → HasDistinctNames (named.file_columns p) → AllByRecursion (IsRow (length p.columns)) p.rows → is_consistent (said p) ≡ true
+consistent p few room names each =
+    let others : HasDistinctNames (map named_of (file_columns p)) = subst HasDistinctNames (sym (columns_named p)) names in
     let all : names_of_rows (λ _. true) (said p).rows ≡ codes "obj" ∷ names_from 1 p.rows = ap (λ (names : List Field). codes "obj" ∷ names) (names_all 1 p.rows) in
     let distinct : are_distinct (names_of_rows (λ _. true) (said p).rows) ≡ true = rw (names_all 1 p.rows, obj_no_row 1 p.rows, names_distinct 1 p.rows room) refl in
     let entries : list_all (λ (e : Entry). is_among (names_of_rows (λ _. true) (said p).rows) e.row) (said p).entries ≡ true =
@@ -221,8 +228,18 @@ consistent p few room names =
     let ranges : are_settings (names_of_rows is_at_least (said p).rows) (said p).ranges ≡ true = ranges_settings p.rows room in
     let bounds : list_all (λ (b : Bound). is_among (names_of_columns (said p).entries) b.column) (said p).bounds ≡ true = bounds_pass (file_columns p) in
     let marks : list_all (is_marked_well (said p)) (said p).entries ≡ true =
-    passes (is_marked_well (said p)) (said p).entries (columns_marked p (file_columns p) (all_marked (file_columns p) (subst HasDistinctNames (sym (columns_named p)) names)) (all_said (file_columns p))) in
-    six_tests _ _ _ _ _ _ distinct entries rights ranges bounds marks
+    passes (is_marked_well (said p)) (said p).entries (columns_marked p (file_columns p) (all_marked (file_columns p) others) (all_said (file_columns p))) in
+    let together : are_together (said p).entries ≡ true = columns_together (file_columns p) others in
+    let places : are_different_places (said p).entries ≡ true = columns_apart (length p.rows) (file_columns p) room (over_rows p few) (file_rising p each) others in
+    let once : are_said_once (said p).bounds ≡ true = columns_once (file_columns p) others in
+    let one_way : list_all (has_one_reading (said p).bounds) (said p).bounds ≡ true =
+    passes (has_one_reading (said p).bounds) (said p).bounds
+    (columns_read_one_way (said p).bounds (file_columns p) (lower_said (said p).bounds (file_columns p) (all_said (file_columns p)))) in
+    ten_tests _ _ _ _ _ _ _ _ _ _ distinct entries rights ranges bounds marks together places once one_way
   where
-    six_tests : (a b c d e f : Bool) → a ≡ true → b ≡ true → c ≡ true → d ≡ true → e ≡ true → f ≡ true → (a && (b && (c && (d && (e && f))))) ≡ true
-    six_tests a b c d e f s t u v w x = rw (s, t, u, v, w, x) refl
+    both : (a b : Bool) → a ≡ true → b ≡ true → (a && b) ≡ true
+    both a b s t = rw (s, t) refl
+
+    ten_tests : (a b c d e f g h i j : Bool) → a ≡ true → b ≡ true → c ≡ true → d ≡ true → e ≡ true → f ≡ true → g ≡ true → h ≡ true → i ≡ true → j ≡ true → (a && (b && (c && (d && (e && (f && (g && (h && (i && j))))))))) ≡ true
+    ten_tests a b c d e f g h i j p q r s t u v w x y =
+        both a _ p (both b _ q (both c _ r (both d _ s (both e _ t (both f _ u (both g _ v (both h _ w (both i j x y))))))))

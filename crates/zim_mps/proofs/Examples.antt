@@ -1,12 +1,11 @@
--- Texts of small programs, written out; texts that have an instance, and texts that have none.
+-- Texts of small programs, written out.
 use Rattle.std.proofs.Common.{◌≡◌, List, [], ◌∷◌, Bool, true, false, Option, Some, None, refl, pos, negsuc, lit<}
 use Rattle.std.proofs.lemmas.Fmt.{decimal_digit, decimal_step}
-use Rattle.std.specs.Prelude.{codes, is_some, decimal}
+use Rattle.std.specs.Prelude.{codes, decimal}
 use Rattle.zim_fault.specs.declared.faults.Place.{Place}
 use Rattle.zim_rational.specs.Gcd.{gcd, euclid}
 use Rattle.zim_rational.specs.Rational.{Rational, zero, one, whole, ratio, plus, negate, minus, same}
 use Rattle.zim_decimal.specs.Short.{is_short, decimals, point_and, decimal_text, short_text}
-use Rattle.zim_decimal.specs.Reading.{number_of_text}
 use Rattle.zim_linear.specs.Forms.{Term}
 use Rattle.zim_rows.specs.declared.rows.Column.{Column}
 use Rattle.zim_rows.specs.declared.rows.Row.{Row}
@@ -15,7 +14,6 @@ use Rattle.zim_rows.specs.declared.rows.RowKind.TheVariants.{One, Range}
 use Rattle.zim_rows.specs.declared.rows.Sense.TheVariants.{AtLeast, AtMost}
 use Rattle.zim_rows.specs.Program.{no_target}
 use Rattle.zim_mps.specs.Text.{mps_text}
-use Rattle.zim_mps.specs.Reader.{mps}
 
 -- ---- numbers
 
@@ -161,41 +159,3 @@ integer_text = simp (one_digit, text_one, text_two, text_zero, one_short, two_sh
 -- two integer columns between real ones
 marked_text : mps_text (record { columns = plain ∷ column true None (Some one) ∷ column true None None ∷ []; rows = []; target = record { maximize = true; place = Some place; factor = pos 1; terms = (2, whole (pos 2)) ∷ []; constant = whole (pos 15) } }) ≡ codes "NAME zimplc\nROWS\n N obj\nCOLUMNS\n x1 obj 0\n MARKER 'MARKER' 'INTORG'\n x2 obj -2\n x3 obj 0\n MARKER 'MARKER' 'INTEND'\n one obj -15\nRHS\nBOUNDS\n LO BND x1 0\n PL BND x1\n MI BND x2\n UP BND x2 1\n FR BND x3\n LO BND one 1\n UP BND one 1\nENDATA\n"
 marked_text = simp (one_digit, two_digit, three_digit, text_one, text_zero, text_minus_zero, text_minus_two, text_minus_fifteen, zero_short, one_short, some_constant)
-
--- ---- texts and instances
-
-two_columns : is_some (mps (codes "NAME zimplc\nROWS\n N obj\n G r1\nCOLUMNS\n x1 obj 2\n x1 r1 1\n x2 obj 3\n x2 r1 1\nRHS\n RHS r1 1\nBOUNDS\n LO BND x1 0\n PL BND x1\n LO BND x2 0\n PL BND x2\nENDATA\n")) ≡ true
-unfolding number_of_text
-two_columns = refl
-
-range_and_integer : is_some (mps (codes "NAME zimplc\nROWS\n N obj\n G r1\nCOLUMNS\n MARKER 'MARKER' 'INTORG'\n x1 obj 0\n x1 r1 1.5\n MARKER 'MARKER' 'INTEND'\nRHS\n RHS r1 2\nRANGES\n RNG r1 6\nBOUNDS\n FR BND x1\nENDATA\n")) ≡ true
-unfolding number_of_text
-range_and_integer = refl
-
-integer_without_ends : is_some (mps (codes "NAME zimplc\nROWS\n N obj\nCOLUMNS\n MARKER 'MARKER' 'INTORG'\n x1 obj 0\n MARKER 'MARKER' 'INTEND'\nRHS\nBOUNDS\n LO BND x1 0\nENDATA\n")) ≡ false
-unfolding number_of_text
-integer_without_ends = refl
-
-marker_not_closed : is_some (mps (codes "NAME zimplc\nROWS\n N obj\nCOLUMNS\n MARKER 'MARKER' 'INTORG'\n x1 obj 0\nRHS\nBOUNDS\n FR BND x1\nENDATA\n")) ≡ false
-unfolding number_of_text
-marker_not_closed = refl
-
-unknown_row : is_some (mps (codes "NAME zimplc\nROWS\n N obj\nCOLUMNS\n x1 obj 0\n x1 r1 1\nRHS\nBOUNDS\nENDATA\n")) ≡ false
-unfolding number_of_text
-unknown_row = refl
-
-two_objectives : is_some (mps (codes "NAME zimplc\nROWS\n N obj\n N cost\nCOLUMNS\n x1 obj 0\nRHS\nBOUNDS\nENDATA\n")) ≡ false
-unfolding number_of_text
-two_objectives = refl
-
-range_of_an_equality : is_some (mps (codes "NAME zimplc\nROWS\n N obj\n E r1\nCOLUMNS\n x1 r1 1\nRHS\nRANGES\n RNG r1 6\nBOUNDS\nENDATA\n")) ≡ false
-unfolding number_of_text
-range_of_an_equality = refl
-
-bound_of_no_column : is_some (mps (codes "NAME zimplc\nROWS\n N obj\nCOLUMNS\n x1 obj 1\nRHS\nBOUNDS\n FR BND x2\nENDATA\n")) ≡ false
-unfolding number_of_text
-bound_of_no_column = refl
-
-no_number : is_some (mps (codes "NAME zimplc\nROWS\n N obj\nCOLUMNS\n x1 obj 1e3\nRHS\nBOUNDS\nENDATA\n")) ≡ false
-unfolding number_of_text
-no_number = refl

@@ -6,6 +6,7 @@ pub mod Parsing
 pub mod Transposed
 pub mod NameLemmas
 pub mod ColumnLemmas
+pub mod OnceLemmas
 pub mod Consistent
 pub mod Meaning
 pub mod Objective

@@ -2,11 +2,12 @@
 use Rattle.std.proofs.Common.{◌≡◌, ◌+◌, ◌<◌, ◌^◌, ◌≤◌, true, false, List, ℕ, Some, length, map, refl, sym, ◌∙◌, ap, subst, arith}
 use Rattle.std.specs.Prelude.{codes, option_and_then}
 use Rattle.std.specs.List.{AllByRecursion}
+use Rattle.std.proofs.lemmas.List.Elements.{recursion_from_All}
 use Rattle.zim_rational.specs.Rational.{whole, times}
 use Rattle.zim_instance.specs.Instance as instance
 use Rattle.zim_instance.specs.Instance.{Instance, KeepsRow}
 use Rattle.zim_instance.specs.System.{Says}
-use Rattle.zim_rows.specs.Program.{LinearProgram, IsProgram}
+use Rattle.zim_rows.specs.Program.{LinearProgram, IsRow, IsProgram}
 use Rattle.zim_rows.specs.Named.{named_objective}
 use Rattle.zim_rows.proofs.NamedLaws.{file_columns_distinct}
 use Rattle.zim_rows.proofs.RepresentLaws.{represents_by, one_is_one, objective_in_file}
@@ -51,7 +52,7 @@ text_says p is =
       instance = i;
       read =
           ap (option_and_then meaning) (text_read p (few_columns p is) (few_rows p is) (program_reads p is))
-          ∙ meaning_by (said p) (codes "obj") (consistent p (few_columns p is) (few_rows p is) (file_columns_distinct p is)) (one_free p);
+          ∙ meaning_by (said p) (codes "obj") (consistent p (few_columns p is) (few_rows p is) (file_columns_distinct p is) (recursion_from_All (IsRow (length p.columns)) p.rows is.each_row)) (one_free p);
       says = says p is;
       represents =
           represents_by i p objective false (mps_factor p.target.maximize) (says p is) is

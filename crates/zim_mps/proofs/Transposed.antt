@@ -31,7 +31,7 @@ later_column k a more = grind (arith, nat_tests)
 earlier_column : (k a : ℕ) → k < a → (k == a) ≡ false
 earlier_column k a less = grind (arith, nat_tests)
 
-none_at : (a b : ℕ) (terms : List Term) → a < b → AreTermsFrom b terms → at_column terms a ≡ []
+pub none_at : (a b : ℕ) (terms : List Term) → a < b → AreTermsFrom b terms → at_column terms a ≡ []
 none_at a b [] h is = refl
 none_at a b (t ∷ ts) h is =
     rw (later_column t.0 a (omega (arith, is.0))) (none_at a (suc t.0) ts (omega (arith, is.0)) is.2)
@@ -97,7 +97,7 @@ row_other i k j (t ∷ ts) other = by_column (t.0 == j) (row_other i k j ts othe
     by_column true rest = rw other rest
     by_column false rest = rest
 
-abbrev column_from : ℕ → List Row → ℕ → List Term
+abbrev pub column_from : ℕ → List Row → ℕ → List Term
 column_from first rows j = flat_map (λ (r : NumberedRow). entries_of_row r.0 r.1.terms j) (enumerate_from first rows)
 
 rows_later : (i first j : ℕ) (rows : List Row) → i < first → of_row i (column_from first rows j) ≡ []

@@ -4,4 +4,5 @@ pub mod Syntax
 pub mod Reader
 pub mod Text
 pub mod Correct
+pub mod Examples
 pub mod Puts

@@ -2,7 +2,7 @@
 use Rattle.std.specs.Prelude.{Bool, true, false, not, ◌||◌, ◌&&◌, if◌then◌else◌, List, [], ◌∷◌, map, filter, fold, Option, Some, None, is_some, option_map, unwrap_or, find}
 use Rattle.std.specs.List.{list_any, list_all, filter_map}
 use Rattle.std.specs.Str.{bytes_eq}
-use Rattle.zim_rational.specs.Rational.{Rational, zero, plus, negate, at_most}
+use Rattle.zim_rational.specs.Rational.{Rational, zero, plus, negate, at_most, below}
 use Rattle.zim_instance.specs.Instance.{Column, Term, Row, Instance}
 use Rattle.zim_fields.specs.Fields.{Field}
 
@@ -98,7 +98,44 @@ is_marked_well program e =
     not (is_integer program.entries e.column)
     || (e.integer && (says_lower program.bounds e.column && says_upper program.bounds e.column))
 
--- Rows have different names; each line of the other sections names a row or a column that is there, ranges a G row.
+-- The first of some lines is of that column.
+abbrev pub is_first_column : Field → List Entry → Bool
+is_first_column name [] = false
+is_first_column name (e ∷ _) = bytes_eq name e.column
+
+-- The lines of each column stand together: behind a line the next one is of its column, or none is.
+abbrev pub are_together : List Entry → Bool
+are_together [] = true
+are_together (e ∷ es) = (is_first_column e.column es || not (is_among (names_of_columns es) e.column)) && are_together es
+
+-- Two lines are of one column and one row.
+abbrev pub are_one_place : Entry → Entry → Bool
+are_one_place d e = bytes_eq d.column e.column && bytes_eq d.row e.row
+
+-- No two lines are of one column and one row.
+abbrev pub are_different_places : List Entry → Bool
+are_different_places [] = true
+are_different_places (e ∷ es) = not (list_any (are_one_place e) es) && are_different_places es
+
+-- No two lines of the bounds say something of one end of one column.
+abbrev pub are_said_once : List Bound → Bool
+are_said_once [] = true
+are_said_once (b ∷ bs) =
+    not (is_some b.lower && says_lower bs b.column) && (not (is_some b.upper && says_upper bs b.column) && are_said_once bs)
+
+-- What a line says of an upper end is a number below 0.
+abbrev pub is_below_zero : Option (Option Rational) → Bool
+is_below_zero None = false
+is_below_zero (Some None) = false
+is_below_zero (Some (Some q)) = below q zero
+
+-- A line sets no upper end below 0, unless a line says something of the column's lower end. Where none does, programs that
+-- read MPS take the lower end for 0 or for infinite.
+abbrev pub has_one_reading : List Bound → Bound → Bool
+has_one_reading bounds b = says_lower bounds b.column || not (is_below_zero b.upper)
+
+-- Rows have different names; each line of the other sections names a row or a column that is there, ranges a G row; a column's
+-- lines stand together, and nothing is said twice.
 abbrev pub is_consistent : Program → Bool
 is_consistent program =
     are_distinct (names_of_rows (λ _. true) program.rows)
@@ -106,7 +143,10 @@ is_consistent program =
     && (are_settings (names_of_rows (λ k. not (is_free k)) program.rows) program.rhs
     && (are_settings (names_of_rows is_at_least program.rows) program.ranges
     && (list_all (λ (b : Bound). is_among (names_of_columns program.entries) b.column) program.bounds
-    && list_all (is_marked_well program) program.entries))))
+    && (list_all (is_marked_well program) program.entries
+    && (are_together program.entries
+    && (are_different_places program.entries
+    && (are_said_once program.bounds && list_all (has_one_reading program.bounds) program.bounds))))))))
 
 -- The number that settings have for a row, if they have one.
 abbrev pub setting_of : List Setting → Field → Option Rational

@@ -1,23 +1,27 @@
 -- The text of a table is the table of its columns, names and factors.
-use Rattle.std.proofs.Common.{◌≡◌, ℕ, zero, suc, ℤ, ◌+◌, ◌<◌, ◌≤◌, ◌^◌, Bool, true, false, cond, List, [], ◌∷◌, ◌++◌, length, length-take, map, take, Option, Some, None, pos, negsuc, refl, sym, ◌∙◌, ap, append-nil, arith}
-use Rattle.std.specs.Prelude.{◌==◌, codes, decimal, IfSome, is_some, option_map, unsigned_abs}
+use Rattle.std.proofs.Common.{◌≡◌, ℕ, zero, suc, ℤ, ◌+◌, ◌<◌, ◌≤◌, ◌≤ℤ◌, ◌^◌, Bool, true, false, cond, List, [], ◌∷◌, ◌++◌, length, length-take, length-append, get_or, map, take, Option, Some, None, pos, negsuc, refl, sym, ◌∙◌, ap, subst, append-nil, append_assoc, arith}
+use Rattle.std.specs.Prelude.{◌==◌, if◌then◌else◌, codes, decimal, flat_map, IfSome, IsNone, is_some, option_map, unsigned_abs}
+use Rattle.std.specs.Str.{bytes_eq}
 use Rattle.std.specs.Fmt.{signed_decimal}
 use Rattle.std.specs.List.{AllByRecursion, enumerate_from, filter_map}
 use Rattle.std.proofs.lemmas.List.Elements.{recursion_from_All}
-use Rattle.std.proofs.lemmas.List.Sums.{count_by-le-length}
+use Rattle.std.proofs.lemmas.Bool.Decides.{nat_tests}
+use Rattle.std.proofs.lemmas.Int.{ints}
+use Rattle.std.proofs.lemmas.List.Sums.{count_by-le-length, count_by_more_yes}
+use Rattle.zim_instance.proofs.Points.{bytes_eq-same}
 use Rattle.zim_fields.specs.Fields.{Field, lines, fields, IsField}
 use Rattle.zim_fields.proofs.Cutting.{IsField-test}
-use Rattle.zim_fields.proofs.Decimals.{decimal_field, lettered_field, signed_field, whole_of-signed}
+use Rattle.zim_fields.proofs.Decimals.{decimal_field, lettered_field, signed_field, from_one_of-decimal}
 use Rattle.zim_rows.specs.declared.rows.Row.{Row}
 use Rattle.zim_fraction.specs.Limit.{limit}
 use Rattle.zim_rows.specs.System.{most}
 use Rattle.zim_rows.specs.Program.{LinearProgram, IsRow, IsProgram}
 use Rattle.zim_rows.specs.Named.{column_name, row_name, has_offset}
 use Rattle.zim_table.specs.declared.names.Names.{Names}
-use Rattle.zim_fields.specs.Numbers.{whole_of}
-use Rattle.zim_table.specs.Reader.{Pair, Line, Stage, stage_after, read_line, read_lines, are_in_order, pair_of, is_objective, read_table, table}
+use Rattle.zim_fields.specs.Numbers.{from_one_of}
+use Rattle.zim_table.specs.Reader.{Pair, Table, Line, read_line, read_lines, are_in_order, pair_of, read_objective, is_ended, read_table, table}
 use Rattle.zim_table.specs.Reader.Line.{Declared, Offset, RowOf, End}
-use Rattle.zim_table.specs.Reader.Stage.{Columns, Details, Rows}
+use Rattle.zim_table.specs.Reader.Stage.{Columns, Rows}
 use Rattle.zim_table.specs.Text.{statement_of, statement_name, minimised_factor, factor_text, objective_text, variable_text, offset_text, place_in_statement, row_text, table_text}
 use Rattle.zim_table.specs.Correct.{IsStatement, CanBeListed, numbered_pair, table_said, TextsSayNames}
 use Rattle.zim_table.proofs.Cut.{cut_said}
@@ -88,28 +92,49 @@ rows_give n names rows first (row ∷ some) h few all are =
 
 -- they are read
 
-whole_of-decimal : (n : ℕ) → n ≤ most → is_some (whole_of (decimal n)) ≡ true
-whole_of-decimal n h = ap is_some (whole_of-signed (pos n) (omega arith))
-
-whole_of-factor : (factor : ℤ) → unsigned_abs factor ≤ limit → is_some (whole_of (signed_decimal factor)) ≡ true
-whole_of-factor factor h = ap is_some (whole_of-signed factor (omega arith))
-
 abbrev said_variable : Variable → Line
-said_variable v = Declared (numbered_pair v)
+said_variable v = Declared v.0 (numbered_pair v)
 
-variables_read : (vs : List Variable) → AllByRecursion (λ (v : Variable). read_line (variable_fields v) ≡ Some (said_variable v)) vs
-variables_read [] = tt
-variables_read (v ∷ vs) = (refl, variables_read vs)
+variables_read : (first : ℕ) (variables : List (List ℕ)) → 0 < first → first + length variables < 2 ^ 64 → AllByRecursion (λ (v : Variable). read_line (variable_fields v) ≡ Some (said_variable v)) (enumerate_from first variables)
+variables_read first [] some room = tt
+variables_read first (name ∷ names) some room =
+    (rw (from_one_of-decimal first some (omega arith)) refl, variables_read (first + 1) names (omega arith) (omega arith))
 
 abbrev said_row : NumberedRow → Line
-said_row r = RowOf
+said_row r = RowOf r.0
 
-rows_read : (n : ℕ) (names : Names) (rows : List Row) (first : ℕ) (some : List Row) → length rows ≤ most → AllByRecursion (IsRow n) some → AllByRecursion (λ (r : NumberedRow). read_line (row_fields names rows r) ≡ Some (said_row r)) (enumerate_from first some)
-rows_read n names rows first [] few are = tt
-rows_read n names rows first (row ∷ some) few are = (
-  rw (whole_of-decimal (place_in_statement rows (first, row)) (place_small rows (first, row) few), whole_of-factor row.factor are.0.factor_within) refl,
-  rows_read n names rows (first + 1) some few are.1,
-)
+-- a row stands behind those before it
+at_behind : (done some : List Row) (row d : Row) → get_or (done ++ row ∷ some) (length done) d ≡ row
+at_behind [] some row d = refl
+at_behind (x ∷ done) some row d = at_behind done some row d
+
+same_number : (n : ℕ) → (n == n) ≡ true
+same_number n = grind (arith, nat_tests)
+
+-- a row is one of its statement
+place_some : (done some : List Row) (row : Row) → 0 < place_in_statement (done ++ row ∷ some) (length done + 1, row)
+place_some done some row =
+    let test : Row → Bool = λ (r : Row). statement_of r == statement_of row in
+    let here : get_or (done ++ row ∷ some) (length done) row ≡ row = at_behind done some row row in
+    let count = count_by_more_yes test (done ++ row ∷ some) (length done) row (omega (arith, length-append done (row ∷ some)))
+    (ap test here ∙ same_number (statement_of row)) in
+    omega arith
+
+-- a factor reads back, from 1
+factor_read : (factor : ℤ) → pos 1 ≤ℤ factor → unsigned_abs factor ≤ limit → is_some (from_one_of (signed_decimal factor)) ≡ true
+factor_read (pos n) low within = ap is_some (from_one_of-decimal n (omega (arith, ints, low)) (omega arith))
+factor_read (negsuc n) low within = absurd (omega (arith, ints, low))
+
+rows_read : (n : ℕ) (names : Names) (done some rows : List Row) (first : ℕ) → rows ≡ done ++ some → first ≡ length done + 1 → length rows ≤ most → first + length some < 2 ^ 64 → AllByRecursion (IsRow n) some → AllByRecursion (λ (r : NumberedRow). read_line (row_fields names rows r) ≡ Some (said_row r)) (enumerate_from first some)
+rows_read n names done [] rows first same number few room are = tt
+rows_read n names done (row ∷ some) rows first same number few room are =
+    let low : 0 < place_in_statement rows (first, row) =
+    subst (λ (rs : List Row). 0 < place_in_statement rs (first, row)) (sym same) (subst (λ (k : ℕ). 0 < place_in_statement (done ++ row ∷ some) (k, row)) (sym number) (place_some done some row)) in
+    let small : place_in_statement rows (first, row) ≤ most = place_small rows (first, row) few in
+    let place : is_some (from_one_of (decimal (place_in_statement rows (first, row)))) ≡ true = ap is_some (from_one_of-decimal (place_in_statement rows (first, row)) low (omega arith)) in (
+      rw (place, factor_read row.factor are.0.factor are.0.factor_within, from_one_of-decimal first (omega arith) (omega arith)) refl,
+      rows_read n names (done ++ row ∷ []) some rows (first + 1) (same ∙ sym (append_assoc done (row ∷ []) some)) (omega (arith, length-append done (row ∷ []))) few (omega arith) are.1,
+    )
 
 -- lines that can be read, before others
 read_before : {X : Type 0} (line : X → List Field) (value : X → Line) (xs : List X) (ls : List (List Field)) (others : List Line) → AllByRecursion (λ x. read_line (line x) ≡ Some (value x)) xs → read_lines ls ≡ Some others → read_lines (map line xs ++ ls) ≡ Some (map value xs ++ others)
@@ -132,31 +157,27 @@ abbrev further_said : LinearProgram → List (List ℕ) → List Line
 further_said p variables =
     map said_variable (enumerate_from 1 variables) ++ (said_offset (has_offset p) ++ (map said_row (enumerate_from 1 p.rows) ++ (End ∷ [])))
 
-further_read : (p : LinearProgram) (variables : List (List ℕ)) (names : Names) → IsProgram p.columns p.rows p.target → read_lines (further_fields p variables names) ≡ Some (further_said p variables)
-further_read p variables names program =
-    read_before variable_fields said_variable (enumerate_from 1 variables) _ _ (variables_read (enumerate_from 1 variables))
+further_read : (p : LinearProgram) (variables : List (List ℕ)) (names : Names) → IsProgram p.columns p.rows p.target → 1 + length variables < 2 ^ 64 → read_lines (further_fields p variables names) ≡ Some (further_said p variables)
+further_read p variables names program room =
+    read_before variable_fields said_variable (enumerate_from 1 variables) _ _ (variables_read 1 variables (omega arith) room)
     (offset_read (has_offset p) _ _
-    (read_before (row_fields names p.rows) said_row (enumerate_from 1 p.rows) ((codes "end" ∷ []) ∷ []) (End ∷ []) (rows_read (length p.columns) names p.rows 1 p.rows program.few_rows (recursion_from_All (IsRow (length p.columns)) p.rows program.each_row)) refl))
+    (read_before (row_fields names p.rows) said_row (enumerate_from 1 p.rows) ((codes "end" ∷ []) ∷ []) (End ∷ [])
+    (rows_read (length p.columns) names [] p.rows p.rows 1 refl refl program.few_rows (omega (arith, program.few_rows)) (recursion_from_All (IsRow (length p.columns)) p.rows program.each_row)) refl))
 
 -- they are in order, and their pairs are those of the variables
 
-rows_ordered : (stage : Stage) (rs : List NumberedRow) → are_in_order stage (map said_row rs ++ (End ∷ [])) ≡ true
-rows_ordered stage [] = refl
-rows_ordered Columns (r ∷ rs) = rows_ordered Rows rs
-rows_ordered Details (r ∷ rs) = rows_ordered Rows rs
-rows_ordered Rows (r ∷ rs) = rows_ordered Rows rs
+rows_ordered : (last : ℕ) (rows : List Row) → are_in_order (Rows last) (map said_row (enumerate_from (last + 1) rows) ++ (End ∷ [])) ≡ true
+rows_ordered last [] = refl
+rows_ordered last (row ∷ rows) = rw (same_number (last + 1)) (rows_ordered (last + 1) rows)
 
-offset_ordered : (stage : Stage) (none : Bool) (rs : List NumberedRow) → stage_after stage Offset ≡ Some Rows → are_in_order stage (said_offset none ++ (map said_row rs ++ (End ∷ []))) ≡ true
-offset_ordered Columns true rs e = rows_ordered Rows rs
-offset_ordered Details true rs e = rows_ordered Rows rs
-offset_ordered Rows true rs e = cc
-offset_ordered stage false rs e = rows_ordered stage rs
+offset_ordered : (last : ℕ) (priority start stands : Bool) (rows : List Row) → are_in_order (Columns last priority start) (said_offset stands ++ (map said_row (enumerate_from 1 rows) ++ (End ∷ []))) ≡ true
+offset_ordered last priority start true rows = rows_ordered 0 rows
+offset_ordered last priority start false [] = refl
+offset_ordered last priority start false (row ∷ rows) = rows_ordered 1 rows
 
-variables_ordered : (stage : Stage) (vs : List Variable) (none : Bool) (rs : List NumberedRow) → stage_after stage Offset ≡ Some Rows → are_in_order stage (map said_variable vs ++ (said_offset none ++ (map said_row rs ++ (End ∷ [])))) ≡ true
-variables_ordered stage [] none rs e = offset_ordered stage none rs e
-variables_ordered Columns (v ∷ vs) none rs e = variables_ordered Details vs none rs refl
-variables_ordered Details (v ∷ vs) none rs e = variables_ordered Details vs none rs refl
-variables_ordered Rows (v ∷ vs) none rs e = cc
+variables_ordered : (last : ℕ) (priority start : Bool) (variables : List (List ℕ)) (stands : Bool) (rows : List Row) → are_in_order (Columns last priority start) (map said_variable (enumerate_from (last + 1) variables) ++ (said_offset stands ++ (map said_row (enumerate_from 1 rows) ++ (End ∷ [])))) ≡ true
+variables_ordered last priority start [] stands rows = offset_ordered last priority start stands rows
+variables_ordered last priority start (v ∷ vs) stands rows = rw (same_number (last + 1)) (variables_ordered (last + 1) true true vs stands rows)
 
 rows_pairs : (rs : List NumberedRow) → filter_map pair_of (map said_row rs ++ (End ∷ [])) ≡ []
 rows_pairs [] = refl
@@ -172,10 +193,10 @@ variables_pairs (v ∷ vs) none rs = ap (λ (ps : List Pair). numbered_pair v �
 
 -- the whole table
 
-objective_is : (maximises : Bool) (name : Option (List ℕ)) → is_objective (objective_fields maximises name) ≡ true
-objective_is maximises None = refl
-objective_is true (Some name) = refl
-objective_is false (Some name) = refl
+objective_is : (maximises : Bool) (name : Option (List ℕ)) → (IsNone name → maximises ≡ false) → read_objective (objective_fields maximises name) ≡ Some maximises
+objective_is maximises None none = ap (λ (b : Bool). Some b) (sym (none refl))
+objective_is true (Some name) none = refl
+objective_is false (Some name) none = refl
 
 -- the negative of a number has its size
 size_turned : (maximises : Bool) (factor : ℤ) → unsigned_abs (minimised_factor maximises factor) ≡ unsigned_abs factor
@@ -184,9 +205,23 @@ size_turned true (pos (suc n)) = refl
 size_turned true (negsuc n) = refl
 size_turned false factor = refl
 
-table_read : (maximises : Bool) (objective : Option (List ℕ)) (lp mps : ℤ) (ls : List (List Field)) (read : List Line) (pairs : List Pair) → unsigned_abs lp ≤ limit → unsigned_abs mps ≤ limit → read_lines ls ≡ Some read → are_in_order Columns read ≡ true → filter_map pair_of read ≡ pairs → read_table ((codes "zimplc" ∷ codes "table" ∷ codes "1" ∷ []) ∷ factor_fields (codes "lp") lp ∷ factor_fields (codes "mps") mps ∷ objective_fields maximises objective ∷ ls) ≡ Some (record { pairs = pairs; lp_factor = lp; mps_factor = mps })
-table_read maximises objective lp mps ls read pairs h k e f g =
-    rw (objective_is maximises objective, whole_of-signed lp (omega arith), whole_of-signed mps (omega arith), e, f, g) refl
+-- the factor of the MPS, by that of the LP
+factors_agree : (maximises : Bool) (n : ℕ) → 0 < n → signed_decimal (minimised_factor maximises (pos n)) ≡ (if maximises then 45 ∷ decimal n else decimal n)
+factors_agree true zero some = absurd (omega arith)
+factors_agree true (suc n) some = refl
+factors_agree false n some = refl
+
+same_fields : (a b : Field) → a ≡ b → bytes_eq a b ≡ true
+same_fields a b e = subst (λ (c : Field). bytes_eq a c ≡ true) e (bytes_eq-same a)
+
+abbrev table_with : List Pair → Bool → ℤ → Table
+table_with pairs maximises factor = record { pairs = pairs; lp_factor = factor; mps_factor = minimised_factor maximises factor }
+
+table_read : (maximises : Bool) (objective : Option (List ℕ)) (factor : ℤ) (ls : List (List Field)) (read : List Line) (pairs : List Pair) → (IsNone objective → maximises ≡ false) → pos 1 ≤ℤ factor → unsigned_abs factor ≤ limit → read_lines ls ≡ Some read → are_in_order (Columns 0 false false) read ≡ true → filter_map pair_of read ≡ pairs → read_table ((codes "zimplc" ∷ codes "table" ∷ codes "1" ∷ []) ∷ factor_fields (codes "lp") factor ∷ factor_fields (codes "mps") (minimised_factor maximises factor) ∷ objective_fields maximises objective ∷ ls) ≡ Some (table_with pairs maximises factor)
+table_read maximises objective (pos n) ls read pairs none low within e f g =
+    let some : 0 < n = omega (arith, ints, low) in
+    rw (objective_is maximises objective none, from_one_of-decimal n some (omega arith), same_fields (signed_decimal (minimised_factor maximises (pos n))) (if maximises then 45 ∷ decimal n else decimal n) (factors_agree maximises n some), e, f, g) refl
+table_read maximises objective (negsuc n) ls read pairs none low within e f g = absurd (omega (arith, ints, low))
 
 abbrev table_lines : LinearProgram → List (List ℕ) → Names → List (List Field)
 table_lines p variables names =
@@ -222,20 +257,48 @@ text_gives p variables names program is =
     let lp = Gives-append _ _ _ _ (factor_gives (codes "lp") p.target.factor (IsField-test (codes "lp") refl refl) within) mps in
     Gives-append (codes "zimplc table 1\n") _ ((codes "zimplc" ∷ codes "table" ∷ codes "1" ∷ []) ∷ []) _ (Gives-line (codes "zimplc table 1\n") (codes "zimplc") (codes "table" ∷ codes "1" ∷ []) refl (IsField-test (codes "zimplc") refl refl) (IsField-test (codes "table") refl refl, (IsField-test (codes "1") refl refl, tt))) lp
 
+-- the text ends in a line end
+ends_behind : (a b : List ℕ) → is_ended b ≡ true → is_ended (a ++ b) ≡ true
+ends_behind [] b e = e
+ends_behind (x ∷ []) [] e = cc
+ends_behind (x ∷ []) (y ∷ b) e = e
+ends_behind (x ∷ y ∷ a) b e = ends_behind (y ∷ a) b e
+
+text_ended : (p : LinearProgram) (variables : List (List ℕ)) (names : Names) → is_ended (table_text p variables names) ≡ true
+text_ended p variables names =
+    let rows : List ℕ = flat_map (row_text names p.rows) (enumerate_from 1 p.rows) ++ codes "end\n" in
+    let offset : List ℕ = offset_text (has_offset p) ++ rows in
+    let columns : List ℕ = flat_map variable_text (enumerate_from 1 variables) ++ offset in
+    let objective : List ℕ = objective_text p.target.maximize (option_map (statement_name names) names.objective) ++ columns in
+    let mps : List ℕ = factor_text (codes "mps") (minimised_factor p.target.maximize p.target.factor) ++ objective in
+    let lp : List ℕ = factor_text (codes "lp") p.target.factor ++ mps in
+    ends_behind (codes "zimplc table 1\n") lp
+    (ends_behind (factor_text (codes "lp") p.target.factor) mps
+    (ends_behind (factor_text (codes "mps") (minimised_factor p.target.maximize p.target.factor)) objective
+    (ends_behind (objective_text p.target.maximize (option_map (statement_name names) names.objective)) columns
+    (ends_behind (flat_map variable_text (enumerate_from 1 variables)) offset
+    (ends_behind (offset_text (has_offset p)) rows
+    (ends_behind (flat_map (row_text names p.rows) (enumerate_from 1 p.rows)) (codes "end\n") refl))))))
+
+no_name : (names : Names) (objective : Option ℕ) (b : Bool) → (IsNone objective → b ≡ false) → IsNone (option_map (statement_name names) objective) → b ≡ false
+no_name names None b aim none = aim none
+no_name names (Some position) b aim none = cc
+
 text_read : (p : LinearProgram) (variables : List (List ℕ)) (names : Names) → IsProgram p.columns p.rows p.target → CanBeListed p variables names → table (table_text p variables names) ≡ Some (table_said p variables)
 text_read p variables names program is =
-    let within : unsigned_abs p.target.factor ≤ limit = program.objective.factor_within in
-    let turned : unsigned_abs (minimised_factor p.target.maximize p.target.factor) ≤ limit = omega (arith, size_turned p.target.maximize p.target.factor) in
-    ap read_table
+    let room : 1 + length variables < 2 ^ 64 = omega (arith, is.one_each, program.few_columns) in
+    rw (text_ended p variables names)
+    (ap read_table
     (ap (λ t. map fields (lines t)) (sym (append-nil (table_text p variables names)))
     ∙ (text_gives p variables names program is).cut []
     ∙ append-nil (table_lines p variables names))
-    ∙ table_read p.target.maximize (option_map (statement_name names) names.objective) p.target.factor (minimised_factor p.target.maximize p.target.factor) (further_fields p variables names) (further_said p variables) (map numbered_pair (enumerate_from 1 variables))
-    within
-    turned
-    (further_read p variables names program)
-    (variables_ordered Columns (enumerate_from 1 variables) (has_offset p) (enumerate_from 1 p.rows) refl)
-    (variables_pairs (enumerate_from 1 variables) (has_offset p) (enumerate_from 1 p.rows))
+    ∙ table_read p.target.maximize (option_map (statement_name names) names.objective) p.target.factor (further_fields p variables names) (further_said p variables) (map numbered_pair (enumerate_from 1 variables))
+    (no_name names names.objective p.target.maximize is.aim)
+    program.objective.factor
+    program.objective.factor_within
+    (further_read p variables names program room)
+    (variables_ordered 0 false false variables (has_offset p) p.rows)
+    (variables_pairs (enumerate_from 1 variables) (has_offset p) (enumerate_from 1 p.rows)))
 
 -- the text of a table is its table
 pub text_says : TextsSayNames

@@ -1,15 +1,16 @@
 -- A table has one line `end`, and nothing stands behind it.
 use Rattle.std.proofs.Common.{◌≡◌, ℕ, ◌<◌, Bool, true, false, cond, List, [], ◌∷◌, ◌++◌, length, map, Option, Some, None, refl, sym, ◌∙◌, ap, append-nil, append_assoc, arith}
-use Rattle.std.specs.Prelude.{ℤ, ◌==◌, ◌&&◌, if◌then◌else◌, codes, option_map, option_and_then}
+use Rattle.std.specs.Prelude.{ℤ, pos, neg_ℤ, ◌==◌, if◌then◌else◌, codes, option_map, option_and_then}
 use Rattle.std.specs.List.{slice_split, onto_first, filter_map}
 use Rattle.std.proofs.lemmas.List.{map-append}
 use Rattle.std.proofs.lemmas.List.Splits.{slice_split-cons_yes, slice_split-cons_no, length-slice_split}
 use Rattle.zim_gate.specs.Counts.{IsFrontOf}
 use Rattle.zim_fields.specs.Fields.{Field, lines, fields, without_empty_end}
+use Rattle.zim_fields.specs.Numbers.{from_one_of}
 use Rattle.zim_table.specs.Ended.{EndsInEnd, only_line, last_line}
-use Rattle.zim_table.specs.Reader.{Line, Stage, Table, read_line, read_lines, are_in_order, pair_of, read_factor, read_table, table}
-use Rattle.zim_table.specs.Reader.Line.{Declared, Detail, Helper, Offset, RowOf, End}
-use Rattle.zim_table.specs.Reader.Stage.{Columns, Details, Rows}
+use Rattle.zim_table.specs.Reader.{Line, Stage, Table, stage_after, goes_on, read_line, read_lines, are_in_order, pair_of, read_objective, read_factor, table_of, table_by, is_ended, read_table, table}
+use Rattle.zim_table.specs.Reader.Line.{Declared, Priority, StartValue, Helper, Offset, RowOf, End}
+use Rattle.zim_table.specs.Reader.Stage.{Columns, Rows}
 
 -- ---- lines around a line end
 
@@ -88,33 +89,31 @@ no_lines text e = one_empty_part text (no_parts (slice_split is_end text) (some_
 abbrev end_fields : List Field
 end_fields = codes "end" ∷ []
 
+-- what goes on behind a line
+goes_further : (after : Option Stage) (before behind : List Line) → ((stage : Stage) → are_in_order stage (before ++ End ∷ behind) ≡ true → behind ≡ []) → goes_on (λ (next : Stage). are_in_order next (before ++ End ∷ behind)) after ≡ true → behind ≡ []
+goes_further None before behind inner e = cc
+goes_further (Some stage) before behind inner e = inner stage e
+
+no_stage : (stage : Stage) → stage_after stage End ≡ None
+no_stage (Columns last priority start) = refl
+no_stage (Rows last) = refl
+
+none_goes : (further : Stage → Bool) (after : Option Stage) → after ≡ None → goes_on further after ≡ true → ⊥
+none_goes further None e f = cc
+none_goes further (Some stage) e f = cc
+
 -- the lines behind it are none, where they are in order
 end_last : (stage : Stage) (before behind : List Line) → are_in_order stage (before ++ End ∷ behind) ≡ true → behind ≡ []
 end_last stage [] [] e = refl
-end_last Columns [] (line ∷ behind) e = cc
-end_last Details [] (line ∷ behind) e = cc
-end_last Rows [] (line ∷ behind) e = cc
-end_last Columns (Declared pair ∷ before) behind e = end_last Details before behind e
-end_last Details (Declared pair ∷ before) behind e = end_last Details before behind e
-end_last Rows (Declared pair ∷ before) behind e = cc
-end_last Columns (Detail ∷ before) behind e = cc
-end_last Details (Detail ∷ before) behind e = end_last Details before behind e
-end_last Rows (Detail ∷ before) behind e = cc
-end_last Columns (Helper ∷ before) behind e = end_last Columns before behind e
-end_last Details (Helper ∷ before) behind e = end_last Columns before behind e
-end_last Rows (Helper ∷ before) behind e = cc
-end_last Columns (Offset ∷ before) behind e = end_last Rows before behind e
-end_last Details (Offset ∷ before) behind e = end_last Rows before behind e
-end_last Rows (Offset ∷ before) behind e = cc
-end_last Columns (RowOf ∷ before) behind e = end_last Rows before behind e
-end_last Details (RowOf ∷ before) behind e = end_last Rows before behind e
-end_last Rows (RowOf ∷ before) behind e = end_last Rows before behind e
-end_last Columns (End ∷ []) behind e = cc
-end_last Details (End ∷ []) behind e = cc
-end_last Rows (End ∷ []) behind e = cc
-end_last Columns (End ∷ line ∷ before) behind e = cc
-end_last Details (End ∷ line ∷ before) behind e = cc
-end_last Rows (End ∷ line ∷ before) behind e = cc
+end_last stage [] (line ∷ behind) e = absurd (none_goes _ (stage_after stage End) (no_stage stage) e)
+end_last stage (Declared j pair ∷ before) behind e = goes_further (stage_after stage (Declared j pair)) before behind (λ next f. end_last next before behind f) e
+end_last stage (Priority j ∷ before) behind e = goes_further (stage_after stage (Priority j)) before behind (λ next f. end_last next before behind f) e
+end_last stage (StartValue j ∷ before) behind e = goes_further (stage_after stage (StartValue j)) before behind (λ next f. end_last next before behind f) e
+end_last stage (Helper j ∷ before) behind e = goes_further (stage_after stage (Helper j)) before behind (λ next f. end_last next before behind f) e
+end_last stage (Offset ∷ before) behind e = goes_further (stage_after stage Offset) before behind (λ next f. end_last next before behind f) e
+end_last stage (RowOf i ∷ before) behind e = goes_further (stage_after stage (RowOf i)) before behind (λ next f. end_last next before behind f) e
+end_last stage (End ∷ []) behind e = absurd (none_goes _ (stage_after stage End) (no_stage stage) e)
+end_last stage (End ∷ line ∷ before) behind e = absurd (none_goes _ (stage_after stage End) (no_stage stage) e)
 
 -- reading lines with the line `end` among them
 pub record ReadsAround (before behind : List (List Field)) (read : List Line) : Type 0 where
@@ -154,14 +153,18 @@ no_read_lines (line ∷ ls) e = by_parts (read_line line) (read_lines ls) e
     by_parts (Some first) None f = cc
     by_parts (Some first) (Some others) f = cc
 
+-- the stage at which the lines behind the first four begin
+abbrev begin : Stage
+begin = Columns 0 false false
+
 -- nothing stands behind the line `end` of lines that are in order
-further_end : (before behind : List (List Field)) (read : Option (List Line)) (lp mps : ℤ) (said : Table) → read_lines (before ++ end_fields ∷ behind) ≡ read → option_and_then (λ (ls : List Line). if are_in_order Columns ls then Some (record { pairs = filter_map pair_of ls; lp_factor = lp; mps_factor = mps }) else None) read ≡ Some said → behind ≡ []
-further_end before behind None lp mps said e f = cc
-further_end before behind (Some read) lp mps said e f =
+ordered_end : (before behind : List (List Field)) (read : Option (List Line)) (lp mps : ℤ) (said : Table) → read_lines (before ++ end_fields ∷ behind) ≡ read → option_and_then (λ (ls : List Line). if are_in_order begin ls then Some (record { pairs = filter_map pair_of ls; lp_factor = lp; mps_factor = mps }) else None) read ≡ Some said → behind ≡ []
+ordered_end before behind None lp mps said e f = cc
+ordered_end before behind (Some read) lp mps said e f =
     let around = reads_around before behind read e in
-    no_read_lines behind (around.reads ∙ ap Some (end_last Columns around.first around.others (ap (are_in_order Columns) (sym around.whole) ∙ in_order (are_in_order Columns read) refl f)))
+    no_read_lines behind (around.reads ∙ ap Some (end_last begin around.first around.others (ap (are_in_order begin) (sym around.whole) ∙ in_order (are_in_order begin read) refl f)))
   where
-    in_order : (b : Bool) → are_in_order Columns read ≡ b → cond b (Some (record { pairs = filter_map pair_of read; lp_factor = lp; mps_factor = mps })) None ≡ Some said → are_in_order Columns read ≡ true
+    in_order : (b : Bool) → are_in_order begin read ≡ b → cond b (Some (record { pairs = filter_map pair_of read; lp_factor = lp; mps_factor = mps })) None ≡ Some said → are_in_order begin read ≡ true
     in_order true g h = g
     in_order false g h = cc
 
@@ -176,10 +179,11 @@ if_then false o a e = cc
 absurd_none : {A B : Type 0} {b : B} → None ≡ Some b → A
 absurd_none e = cc
 
--- a table's fourth line is its objective's
-no_objective : {A : Type 0} (b : Bool) (o : Option A) (a : A) → (if b && false then o else None) ≡ Some a → ⊥
-no_objective true o a e = absurd_none e
-no_objective false o a e = absurd_none e
+further_end : (before behind : List (List Field)) (lp mps : Field) (maximises : Bool) (said : Table) → table_by (before ++ end_fields ∷ behind) lp mps maximises ≡ Some said → behind ≡ []
+further_end before behind lp mps maximises said e =
+    let number = option_then _ (from_one_of lp) said e in
+    ordered_end before behind (read_lines (before ++ end_fields ∷ behind)) (pos number.0) (if maximises then neg_ℤ (pos number.0) else pos number.0) said refl
+    (if_then _ (table_of (before ++ end_fields ∷ behind) (pos number.0) (if maximises then neg_ℤ (pos number.0) else pos number.0)) said number.1)
 
 -- the first four lines of a table are no line `end`
 table_end : (before behind : List (List Field)) (said : Table) → read_table (before ++ end_fields ∷ behind) ≡ Some said → behind ≡ []
@@ -192,11 +196,14 @@ table_end (a ∷ []) (b ∷ []) said e = cc
 table_end (a ∷ []) (b ∷ c ∷ behind) said e = absurd_none (if_then _ None said e)
 table_end (a ∷ b ∷ []) [] said e = refl
 table_end (a ∷ b ∷ []) (c ∷ behind) said e = absurd_none (option_then _ (read_factor (codes "lp") b) said (if_then _ _ said e)).1
-table_end (a ∷ b ∷ c ∷ []) behind said e = absurd (no_objective _ _ said e)
+table_end (a ∷ b ∷ c ∷ []) behind said e =
+    let lp = option_then _ (read_factor (codes "lp") b) said (if_then _ _ said e) in
+    absurd_none (option_then _ (read_factor (codes "mps") c) said lp.1).1
 table_end (a ∷ b ∷ c ∷ d ∷ before) behind said e =
     let lp = option_then _ (read_factor (codes "lp") b) said (if_then _ _ said e) in
     let mps = option_then _ (read_factor (codes "mps") c) said lp.1 in
-    further_end before behind (read_lines (before ++ end_fields ∷ behind)) lp.0 mps.0 said refl mps.1
+    let aim = option_then _ (read_objective d) said mps.1 in
+    further_end before behind lp.0 mps.0 aim.0 said aim.1
 
 map_none : (ls : List (List ℕ)) → map fields ls ≡ [] → ls ≡ []
 map_none [] e = refl
@@ -205,12 +212,12 @@ map_none (line ∷ ls) e = cc
 -- nothing follows a front that ends in the line `end`
 nothing_follows : (front rest : List ℕ) (said : Table) → table (front ++ rest) ≡ Some said → EndsInEnd front → rest ≡ []
 nothing_follows _ rest said e only_line =
-    no_lines rest (map_none (lines rest) (table_end [] (map fields (lines rest)) said (ap read_table (ap (map fields) (sym (first_line rest))) ∙ e)))
+    no_lines rest (map_none (lines rest) (table_end [] (map fields (lines rest)) said (ap read_table (ap (map fields) (sym (first_line rest))) ∙ if_then (is_ended (codes "end\n" ++ rest)) _ said e)))
 nothing_follows _ rest said e (last_line before) =
     no_lines rest
     (map_none (lines rest)
     (table_end (map fields (slice_split is_end before)) (map fields (lines rest)) said
-    (ap read_table (sym (map-append fields (slice_split is_end before) (codes "end" ∷ lines rest)) ∙ ap (map fields) (sym (ap lines (append_assoc before (codes "\nend\n") rest) ∙ lines_around before rest))) ∙ e)))
+    (ap read_table (sym (map-append fields (slice_split is_end before) (codes "end" ∷ lines rest)) ∙ ap (map fields) (sym (ap lines (append_assoc before (codes "\nend\n") rest) ∙ lines_around before rest))) ∙ if_then (is_ended ((before ++ codes "\nend\n") ++ rest)) _ said e)))
 
 -- a front of a table that ends in the line `end` is the table
 pub front_is_whole : (text front : List ℕ) (said : Table) → table text ≡ Some said → IsFrontOf front text → EndsInEnd front → front ≡ text

@@ -1,5 +1,5 @@
 -- Which programs with which names can be written as a table, what table the text is, and the law that the text of each is it.
-use Rattle.std.specs.Prelude.{◌≡◌, ℕ, ◌<◌, neg_ℤ, if◌then◌else◌, List, [], length, map, All, Some, IfSome}
+use Rattle.std.specs.Prelude.{◌≡◌, ℕ, ◌<◌, neg_ℤ, if◌then◌else◌, List, [], length, map, All, Some, IfSome, IsNone, false}
 use Rattle.std.specs.List.{enumerate_from}
 use Rattle.std.specs.List.Sorted.{IsNonDecreasingBy}
 use Rattle.zim_instance.specs.Instance.{Point}
@@ -17,13 +17,15 @@ pub record IsStatement (names : Names) (position : ℕ) : Type 0 where
   pub there : position < length names.statements
   pub name : IsField (statement_name names position)
 
--- There is one variable for each column; the rows' statements never fall; all names that are written are fields.
+-- There is one variable for each column; the rows' statements never fall; all names that are written are fields; what has no
+-- objective isn't maximised.
 pub record CanBeListed (program : LinearProgram) (variables : List (List ℕ)) (names : Names) : Type 0 where
   pub one_each : length variables ≡ length program.columns
   pub variable_names : All IsField variables
   pub statements : All (λ (r : Row). IsStatement names r.from.statement) program.rows
   pub rising : IsNonDecreasingBy (λ (r : Row). r.from.statement) program.rows
   pub objective : IfSome names.objective (IsStatement names)
+  pub aim : IsNone names.objective → program.target.maximize ≡ false
 
 -- The column of that number with the name of its variable.
 abbrev pub numbered_pair : ℕ × List ℕ → Pair

@@ -3,3 +3,4 @@ pub mod Reader
 pub mod Ended
 pub mod Text
 pub mod Correct
+pub mod Examples

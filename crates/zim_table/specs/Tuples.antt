@@ -1,19 +1,19 @@
 -- Numbers and tuples as a table writes them.
 use Rattle.std.specs.Prelude.{ℕ, zero, suc, ◌+◌, ◌-◌, ◌*◌, Bool, ◌&&◌, ◌||◌, ◌==◌, nat_le, nat_lt, if◌then◌else◌, List, [], ◌∷◌, length, drop, Option, Some, None, option_map, option_and_then}
 use Rattle.std.specs.List.{slice_split, before_first, after_first}
-use Rattle.zim_rational.specs.Rational.{Rational, ratio}
+use Rattle.zim_rational.specs.Rational.{Rational, ratio, is_lowest}
 use Rattle.zim_fields.specs.Fields.{Field}
 use Rattle.zim_fields.specs.Numbers.{count_of, whole_of}
 
--- The fraction that stands in the parts around a slash: `n` or `n/d`.
+-- The fraction that stands in the parts around a slash, in lowest terms: `n`, or `n/d` where d isn't 1.
 abbrev pub fraction_of_parts : List (List ℕ) → Option Rational
 fraction_of_parts [] = None
 fraction_of_parts (numer ∷ []) = option_map (λ n. ratio n 1) (whole_of numer)
 fraction_of_parts (numer ∷ denom ∷ []) =
-    option_and_then (λ n. option_and_then (λ d. if nat_lt 0 d then Some (ratio n d) else None) (count_of denom)) (whole_of numer)
+    option_and_then (λ n. option_and_then (λ d. if nat_lt 1 d && is_lowest n d then Some (ratio n d) else None) (count_of denom)) (whole_of numer)
 fraction_of_parts (_ ∷ _ ∷ _ ∷ _) = None
 
--- A fraction: `n` or `n/d`.
+-- A fraction in lowest terms: `n` or `n/d`.
 abbrev pub fraction_of : List ℕ → Option Rational
 fraction_of bytes = fraction_of_parts (slice_split (λ b. b == 47) bytes)
 

@@ -2,6 +2,7 @@ ghost use Rattle.std.specs.Prelude.{◌≡◌, ℕ, List, Some};
 ghost use Rattle.zim_gate.specs.Counts.{IsFrontOf};
 ghost use Rattle.zim_table.specs.Correct.{TextsSayNames};
 ghost use Rattle.zim_table.specs.Ended.{EndsInEnd};
+ghost use Rattle.zim_table.specs.Examples.{ExamplesAreRead};
 ghost use Rattle.zim_table.specs.Reader.{Table, table};
 
 /// The law that a first part of a table that ends in the line `end` is the whole table: whoever finds a table with
@@ -18,4 +19,11 @@ pub fn an_ended_table_is_whole()
 /// The call does nothing.
 pub fn texts_say_names()
     ensures { TextsSayNames }
+{}
+
+/// The law that texts which show one rule of the reading each are the table that the rule says, or none.
+///
+/// The call does nothing.
+pub fn examples_are_read()
+    ensures { ExamplesAreRead }
 {}
