@@ -13,7 +13,7 @@ use crate::failure::Failure;
 use crate::grammar::{Grammar, Wanted};
 use crate::next::{PRODUCT, PRODUCT_WITH_LOOP, SUM, word_in};
 use crate::tokens::Tokens;
-use crate::turns::repeat;
+use crate::turns::{add, repeat};
 use sqlite_items::{Boxed, Items};
 use std::alloc::{AllocError, Global};
 use zim_fault::{Duplicate, Place, Placed, Token, Word};
@@ -49,7 +49,7 @@ fn one_operand(
     ensures { IfOk result (λ others. others ≡ (place, token, operand) ∷ []) }
 {
     let mut others = Items::new(alloc);
-    others.push((place, token, operand))?;
+    add(alloc, &mut others, (place, token, operand))?;
     Ok(others)
 }
 

@@ -1,6 +1,6 @@
 //! Lists, each of any items.
 
-ghost use Rattle.std.specs.Prelude.{length};
+ghost use Rattle.std.specs.Prelude.{◌≡◌, [], ◌∷◌, ◌++◌, length, OnOk};
 ghost use Rattle.zim_parse_expression.specs.Outcome.{Gives, IsParser, IsTurn};
 ghost use Rattle.zim_parse_expression.specs.Parser as spec;
 ghost use Rattle.zim_parse_expression.specs.Parser.{Parser};
@@ -9,8 +9,21 @@ ghost use Rattle.zim_parse_expression.specs.Turns.{Turn, repeat};
 use crate::failure::Failure;
 use crate::tokens::Tokens;
 use sqlite_items::Items;
-use std::alloc::Global;
+use std::alloc::{AllocError, Global};
 use zim_tree::Class;
+
+/// Adds an item at the end. Most lists have one item, so the first takes room for itself alone.
+pub(crate) fn add<A: Drop>(alloc: Global, items: &mut Items<A>, item: A) -> Result<(), AllocError>
+    ensures { OnOk result (items.new ≡ items.old ++ item ∷ []) }
+{
+    if items.is_empty() {
+        let mut first = Vec::with_capacity(alloc, 1)?;
+        first.push(item)?;
+        *items = Items::from_vec(first);
+        return Ok(());
+    }
+    items.push(item)
+}
 
 /// The items that at most so many turns read, up to one that finds none.
 pub fn repeat<A: Drop, T: Fn(&mut Tokens<'_>) -> Result<Option<A>, Failure>>(
@@ -26,7 +39,7 @@ pub fn repeat<A: Drop, T: Fn(&mut Tokens<'_>) -> Result<Option<A>, Failure>>(
     for _turn in 0..turns {
         match turn(tokens)? {
             None => return Ok(items),
-            Some(item) => items.push(item)?,
+            Some(item) => add(alloc, &mut items, item)?,
         }
     }
     Ok(items)
@@ -43,13 +56,13 @@ pub fn items_behind<A: Drop, I: Fn(&mut Tokens<'_>) -> Result<A, Failure>>(
     ensures { (of : Parser A) → IsParser of (I.post item) → Gives (spec.items_behind of (length tokens.old) first tokens.old) result tokens.new }
 {
     let mut items = Items::new(alloc);
-    items.push(first)?;
+    add(alloc, &mut items, first)?;
     for _turn in 0..tokens.len() {
         match tokens.eat(Class::Comma) {
             None => return Ok(items),
             Some(_comma) => {
                 let next = item(tokens)?;
-                items.push(next)?;
+                add(alloc, &mut items, next)?;
             }
         }
     }

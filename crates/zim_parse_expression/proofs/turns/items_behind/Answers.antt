@@ -5,7 +5,7 @@ use Rattle.zim_parse_expression.proofs.TurnLaws.{items_begin, comma_goes_on, com
 use Rattle.zim_parse_expression.proofs.turns.items_behind.Goals as goal
 
 pub loop-turn-init : goal.loop-turn-init
-loop-turn-init g c = λ of is. items_begin _ _ _ _ _ c.len-turn-end.ensures.value (c.in_ok-push.ensures.ok ∙ ap (λ l. l ++ c.args.first ∷ []) c.new-items.ensures)
+loop-turn-init g c = λ of is. items_begin _ _ _ _ _ c.len-turn-end.ensures.value (c.in_ok-add.ensures ∙ ap (λ l. l ++ c.args.first ∷ []) c.new-items.ensures)
 
 pub returns-in-None : goal.returns-in-None
 returns-in-None g c = λ of is.
