@@ -1,5 +1,5 @@
 -- The rules of statements in the form of the functions: by what comes next.
-use Rattle.std.proofs.Common.{◌≡◌, List, Option, Some, None, refl, if◌then◌else◌}
+use Rattle.std.proofs.Common.{◌≡◌, List, Some, None, refl, if◌then◌else◌}
 use Rattle.zim_fault.specs.declared.tokens.Placed.{Placed}
 use Rattle.zim_tree.specs.declared.stmt.Bracket.{Bracket}
 use Rattle.zim_tree.specs.declared.stmt.Bracket.TheVariants as bracket

@@ -1,5 +1,5 @@
 -- The lists of statements, as loops read them.
-use Rattle.std.proofs.Common.{◌≡◌, ℕ, zero, suc, ◌-◌, ◌+◌, ◌<◌, ◌≤◌, Bool, List, [], ◌∷◌, ◌++◌, length, Option, Some, None, refl, ap, ◌∙◌, arith}
+use Rattle.std.proofs.Common.{◌≡◌, ℕ, zero, suc, ◌-◌, ◌+◌, ◌<◌, ◌≤◌, Bool, List, [], ◌∷◌, ◌++◌, Option, Some, None, refl, ap, ◌∙◌, arith}
 use Rattle.zim_fault.specs.declared.faults.Place.{Place}
 use Rattle.zim_fault.specs.declared.tokens.Placed.{Placed}
 use Rattle.zim_fault.specs.declared.words.Word.{Word}

@@ -6,7 +6,7 @@ use Rattle.zim_tree.specs.declared.expr.Expr.{Expr}
 use Rattle.zim_tree.specs.declared.expr.Expr.TheVariants as tree
 use Rattle.zim_tree.specs.declared.classes.Class.{Class}
 use Rattle.zim_tree.specs.declared.classes.Class.TheVariants as class
-use Rattle.zim_tree.specs.Levels.{Chain, joined, factorial, relations, sum, whole}
+use Rattle.zim_tree.specs.Levels.{Chain, joined, factorial, relations, whole}
 use Rattle.zim_scan.specs.Nesting.{class_at}
 use Rattle.zim_parse_expression.specs.Next.{is_exclamation, rank, is_else, is_end, opens, looseness, class_looseness, Start, a_less, start_of}
 use Rattle.zim_parse_expression.specs.Parser.{Parsed, Parser, Inner, and_then, expect, body_of, marks_of, operands_of, turns_of, named, name_at, if_end, power_of, power_at, power_behind, signed_or, sign_or, sign_before, signed_of, unary_of, postfix_of, primary_of, term_of, big_of, loop_of, term_behind, sum_of, chain_of, member_of, comparison_of, comparison_at, negation_of, negation_at, whole_of, whole_at}

@@ -8,7 +8,7 @@ use Rattle.zim_fault.specs.declared.signs.Sign.TheVariants.{SSemicolon, SColon, 
 use Rattle.zim_fault.specs.declared.words.Word.{Word}
 use Rattle.zim_fault.specs.declared.words.Word.TheVariants.{WRead, WAs, WDefault, WPriority, WStartval}
 use Rattle.zim_tree.specs.StatementGrammar.{is_option, is_kind}
-use Rattle.zim_parse_expression.specs.Parser.{Parsed, Parser}
+use Rattle.zim_parse_expression.specs.Parser.{Parser}
 
 -- one token that passes a test, for its place
 abbrev pub expect_token : (Token → Bool) → Parser Place

@@ -7,7 +7,6 @@ use Rattle.zim_tree.specs.declared.expr.Expr.{Expr}
 use Rattle.zim_tree.specs.declared.expr.Expr.TheVariants as tree
 use Rattle.zim_tree.specs.declared.expr.Body.{Body}
 use Rattle.zim_tree.specs.declared.classes.Class.{Class}
-use Rattle.zim_tree.specs.declared.classes.Class.TheVariants as class
 use Rattle.zim_tree.specs.Levels.{term, sum, whole, Chain, joined, factorial}
 use Rattle.zim_scan.specs.Nesting.{class_at}
 use Rattle.zim_parse_expression.specs.Next.{is_right_paren, is_right_bracket, is_in, is_else, is_end, is_by, looseness}
