@@ -1,0 +1,4 @@
+pub mod DefinitionLemmas
+pub mod FactorialLemmas
+pub mod StopLemmas
+pub mod TruncatedLemmas

@@ -1,0 +1,75 @@
+//! The functions that a model defines.
+ghost use Rattle.std.specs.Prelude.{◌≡◌, [], ◌∷◌, ◌++◌, None, OnOk, OnErr, option_copied};
+ghost use Rattle.zim_functions.specs.Definitions.{defined, AreNamesDistinct};
+
+use indexmap::IndexMap;
+use sqlite_items::Boxed;
+use std::alloc::Global;
+use std::marker::Model;
+use zim_fault::{Bytes, Duplicate, Memory, Sequence, Word};
+use zim_typed::Const;
+
+/// A function as a model defines it.
+#[derive(Drop)]
+pub struct Definition {
+    /// The word that says what the function gives: `defnumb`, `defstrg`, `defbool` or `defset`.
+    pub kind: Word,
+    pub name: Bytes,
+    /// The names of its parameters, in order.
+    pub params: Sequence<Bytes>,
+    pub body: Boxed<Const>,
+}
+
+/// The functions of a model, in the order of their definitions. Each is found by the hash of its name.
+#[derive(Drop)]
+pub struct Defs {
+    kept: IndexMap<Bytes, Definition>,
+}
+
+impl Model for Defs {
+    ghost use Rattle.std.specs.Prelude.{List};
+    ghost use Rattle.std.specs.Map.{values_of};
+    ghost use Rattle.zim_functions.specs.declared.definitions.Definition.{Definition};
+    ghost use Rattle.std.specs.Coded.{coded_list};
+    ghost use Rattle.zim_functions.specs.contracts.definitions.Definition as definition;
+
+    ghost Value = { List Definition };
+
+    ghost coded = { coded_list definition.the_row.coded };
+
+    ghost view = { λ it. values_of it.kept.entries };
+
+    ghost use Rattle.zim_functions.specs.Definitions.{AreKept};
+
+    ghost invariant = { λ it. AreKept it.kept.entries };
+}
+
+impl Defs {
+    /// No functions. They take no memory yet.
+    pub fn new(alloc: Global) -> Defs
+        ensures { result ≡ [] }
+    {
+        Defs {
+            kept: IndexMap::new(alloc),
+        }
+    }
+
+    /// Adds a function at the end, whose name isn't there. After `Memory` the list is as before.
+    pub fn add(&mut self, definition: Definition) -> Result<(), Memory>
+        requires { defined self.old definition.name ≡ None }
+        ensures ok { OnOk result (self.new ≡ self.old ++ definition ∷ []) }
+        ensures err { OnErr result (self.new ≡ self.old) }
+    {
+        let name = definition.name.copy()?;
+        self.kept.insert(name, definition)?;
+        Ok(())
+    }
+
+    /// The function of that name; None exactly where there is none.
+    pub fn get(&self, name: &Bytes) -> Option<&Definition>
+        ensures value { option_copied result ≡ defined self.now name.now }
+        ensures distinct { AreNamesDistinct self.now }
+    {
+        self.kept.get(name)
+    }
+}
