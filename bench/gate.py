@@ -4,7 +4,8 @@
 It runs `rt ci` at the top, with the names given, shows what that prints, and then prints a table with a row for each crate that
 was worked on: the lines of its src/, specs/ and proofs/, and the processor minutes of its proof, of that of its tests and of its
 must-fail edits. What an earlier run passed is kept on a machine and isn't done again: it counts nothing, and the table is that of
-the whole gate only where nothing was kept. The row `rest` has what belongs to no crate, as the runs of tests and programs.
+the whole gate only where nothing was kept. The edits of all crates are told together at the end, so they count to the first crate
+that has some: run it with one name for those of a crate. The row `rest` has what belongs to no crate, as the runs of programs.
 
 A process's time is known when it has ended: what was added since the line before is counted to the crate and the part that the
 next line names. Where two end between two lines, both count to the first of these.
