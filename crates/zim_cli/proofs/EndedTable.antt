@@ -21,7 +21,7 @@ use Rattle.zim_cli.specs.Headline.{HoldsAllFiles, EndedTableIsWhole}
 use Rattle.zim_cli.specs.Outputs.{Texts, texts_of, both_lengths, Makes, ending_text, output_name, without_table, with_lp, with_mps, with_table, StopsAt, untouched, emptied, lp_kept, lp_part, mps_kept, mps_part, table_kept, table_part, IsEmptyFrontOf, IsStoppedAt}
 use Rattle.zim_cli.specs.Run.{Ended, OfTexts, IsStopped, usage, refused, unread, unwritten, no_memory, no_memory_to_begin, done}
 use Rattle.zim_cli.proofs.CompileLemmas.{where_map}
-use Rattle.zim_gate.proofs.Appending.{get_inserted, get_after}
+use Rattle.zim_gate.proofs.AppendingLaws.{get_inserted, get_after}
 
 -- no name is that of two outputs
 other_name : (base : List ℕ) (output : Output) → (ending_text Table ≡ ending_text output → ⊥) → eq_by_cmp (slice_cmp nat_cmp) (output_name base Table) (output_name base output) ≡ false

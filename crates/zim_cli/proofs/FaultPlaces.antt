@@ -17,10 +17,10 @@ use Rattle.zim_lex.specs.Tokens.{placed_token, tokens_at, AreTokens, none, more,
 use Rattle.zim_tree.specs.declared.stmt.Stmt.{Stmt}
 use Rattle.zim_tree.specs.PlainStatement.{replaced_statement}
 use Rattle.zim_parse.specs.Answers.{Accepts}
-use Rattle.zim_parse.proofs.OneAnswer.{fault_is_at_token}
-use Rattle.zim_parse.proofs.Meaning.{places_are_of_tokens}
+use Rattle.zim_parse.proofs.OneAnswerLaws.{fault_is_at_token}
+use Rattle.zim_parse.proofs.MeaningLaws.{places_are_of_tokens}
 use Rattle.zim_plain.specs.Answers.{IsFirstFault}
-use Rattle.zim_plain.proofs.FaultPlaces.{place_stands}
+use Rattle.zim_plain.proofs.FaultPlaceLaws.{place_stands}
 use Rattle.zim_cli.specs.Parsed.{segment, AreParsed, IsFirstRefused}
 use Rattle.zim_cli.specs.Lexed.{LinesBreak, stuck, left_open, unparsed, broken}
 use Rattle.zim_cli.proofs.SpanLemmas.{from-more}

@@ -6,7 +6,7 @@ use Rattle.zim_fault.specs.declared.tokens.Placed.{Placed}
 use Rattle.zim_lex.specs.declared.lines.Span.{Span}
 use Rattle.zim_tree.specs.declared.stmt.Stmt.{Stmt}
 use Rattle.zim_parse.specs.Answers.{Accepts, Refuses}
-use Rattle.zim_parse.proofs.OneAnswer.{accepted_as_one, accepted_is_not_refused, refused_with_one}
+use Rattle.zim_parse.proofs.OneAnswerLaws.{accepted_as_one, accepted_is_not_refused, refused_with_one}
 use Rattle.zim_cli.specs.Parsed.{segment, AreParsed, IsFirstRefused}
 
 -- ---- what is so of all tokens

@@ -7,7 +7,7 @@ use Rattle.zim_fault.specs.declared.tokens.Placed.{Placed}
 use Rattle.zim_lex.specs.declared.lines.Line.{Line}
 use Rattle.zim_lex.specs.Cut.{IsStuck, cut}
 use Rattle.zim_lex.specs.Tokens.{tokens_at, AreLineTokens, AreTokens, none, more, IsFirstStuck, here, later}
-use Rattle.zim_lex.proofs.CutLemmas.{is_cut, is_stuck, one_cut}
+use Rattle.zim_lex.proofs.CutLaws.{is_cut, is_stuck, one_cut}
 
 one_line : (line : Line) (a b : List Placed) → AreLineTokens line a → AreLineTokens line b → a ≡ b
 one_line line a b first second =

@@ -3,7 +3,7 @@ use Rattle.std.proofs.Common.{◌≡◌, ℕ, ◌≤◌, List, [], Option, None,
 use Rattle.std.specs.Prelude.{⊤, ◌⊎◌, length}
 use Rattle.std.specs.FinMap as map
 use Rattle.std.proofs.lemmas.List.{append-nil}
-use Rattle.zim_gate.proofs.Appending.{get_inserted, insert_again}
+use Rattle.zim_gate.proofs.AppendingLaws.{get_inserted, insert_again}
 use Rattle.zim_gate.specs.Counts.{Rose, count_on, IsFrontOf}
 use Rattle.zim_gate.specs.Folder.{FolderState, Files, Begins, Appends, StopsIn, Puts, Ends, put_to, appended_to, emptied}
 use Rattle.zim_gate.specs.declared.stops.BeginStop.{BeginStop}

@@ -1,6 +1,6 @@
 pub mod ShortLemmas
 pub mod DecimalLemmas
-pub mod TokenLemmas
-pub mod ValueLemmas
-pub mod DigitLemmas
+pub mod TokenLaws
+pub mod ValueLaws
+pub mod DigitLaws
 pub mod LiteralLemmas

@@ -17,14 +17,14 @@ use Rattle.zim_fraction.specs.Answers.{product_answer, quotient_answer, number_a
 use Rattle.zim_fraction.specs.declared.fault.NumFault.{NumFault}
 use Rattle.zim_fraction.specs.declared.fault.NumFault.TheVariants as fault
 use Rattle.zim_fraction.specs.declared.fault.Past.{Past}
-use Rattle.zim_fraction.proofs.AnswerLemmas.{quotient_answer_some}
+use Rattle.zim_fraction.proofs.AnswerLaws.{quotient_answer_some}
 use Rattle.zim_rational.specs.Rational.{abs_neg}
 use Rattle.std.specs.List.{position_or_len}
 use Rattle.zim_decimal.specs.Token.{is_number as is_token, is_mark, is_point, decimal_digits, exponent_text, is_field}
 use Rattle.zim_decimal.specs.Literal.{value_answer, scaled, is_near, scaled_answer, significand, last_zeros, digits_of, power_of_ten, literal_answer, signed_answer, field_answer}
 use Rattle.zim_decimal.specs.Digits.{IsCounted}
 use Rattle.zim_decimal.specs.Exponent.{cap, capped, capped_exponent}
-use Rattle.zim_decimal.proofs.DigitLemmas.{ten_at_least, digit_value_of, some_within, none_within}
+use Rattle.zim_decimal.proofs.DigitLaws.{ten_at_least, digit_value_of, some_within, none_within}
 
 pub capped_next : (ds : List ℕ) (i size d : ℕ) → i < length ds → d ≡ get_or ds i 0 → is_ascii_digit d ≡ true → size ≡ capped (take i ds) → min (size * 10 + (d - 48)) cap ≡ capped (take (i + 1) ds)
 capped_next ds i size d room is digit e =

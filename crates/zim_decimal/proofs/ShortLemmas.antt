@@ -9,7 +9,7 @@ use Rattle.zim_rational.proofs.Lowest.{gcd_comm}
 use Rattle.zim_rational.specs.Rational.{Rational}
 use Rattle.zim_rational.specs.Gcd.{gcd, gcd-pos, gcd_le, div_gcd-pos}
 use Rattle.zim_fraction.specs.Limit.{limit}
-use Rattle.zim_fraction.proofs.PartLemmas.{carried, wrapped}
+use Rattle.zim_fraction.proofs.PartLaws.{carried, wrapped}
 use Rattle.zim_decimal.specs.Short.{scale, part, is_short, decimal_text, short_text}
 
 -- a denominator that is read comes back

@@ -37,14 +37,6 @@ impl<T> Sequence<T> {
         }
     }
 
-    /// The empty list, which takes memory for so many members at once.
-    pub fn with_capacity(alloc: Global, count: usize) -> Result<Sequence<T>, Memory>
-        ensures { IfOk result (λ made. made ≡ []) }
-    {
-        let items = Vec::with_capacity(alloc, count)?;
-        Ok(Sequence { items })
-    }
-
     /// The members of a vector.
     pub fn from_vec(items: Vec<T>) -> Sequence<T>
         ensures { result ≡ items.items }

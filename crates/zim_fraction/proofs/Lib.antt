@@ -1,9 +1,9 @@
 pub mod FieldLemmas
 pub mod DivisorLemmas
-pub mod PartLemmas
-pub mod AnswerLemmas
+pub mod PartLaws
+pub mod AnswerLaws
 pub mod WholeLemmas
 pub mod PowerLemmas
-pub mod SumLemmas
+pub mod SumLaws
 pub mod RoundingLemmas
 pub mod OrderLemmas

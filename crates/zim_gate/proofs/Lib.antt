@@ -1,4 +1,4 @@
-pub mod Appending
+pub mod AppendingLaws
 mod Counting
 mod Finding
 pub mod Going

@@ -8,7 +8,7 @@ use Rattle.zim_gate.specs.declared.stored.Stored.{Stored}
 use Rattle.zim_gate.specs.Counts.{Rose, count_on}
 use Rattle.zim_gate.specs.Folder.{FolderState, Appends, Puts, put_to, appended_to}
 use Rattle.zim_gate.specs.Stored.{files_of, first_appended, begun_name}
-use Rattle.zim_gate.proofs.Appending.{Appends-nothing, insert_again, get_inserted}
+use Rattle.zim_gate.proofs.AppendingLaws.{Appends-nothing, insert_again, get_inserted}
 
 -- what is known of a folder in memory, by its parts
 abbrev pub known : Bool → List Stored → List ℕ → ℕ → ℕ → ℕ → Option ℕ → FolderState

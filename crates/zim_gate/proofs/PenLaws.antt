@@ -10,7 +10,7 @@ use Rattle.zim_gate.specs.declared.stops.Failed.{Failed}
 use Rattle.zim_gate.specs.declared.pens.Pen.{Pen}
 use Rattle.zim_gate.specs.Folder.{FolderState, Puts}
 use Rattle.zim_gate.specs.Pen.{GoesOn, Starts, Writes}
-use Rattle.zim_gate.proofs.Appending.{Puts-nothing, Puts-both, Puts-stopped}
+use Rattle.zim_gate.proofs.AppendingLaws.{Puts-nothing, Puts-both, Puts-stopped}
 use Rattle.zim_gate.proofs.Going.{Joins, GoesOn-nothing, GoesOn-both}
 
 -- puts to a folder join

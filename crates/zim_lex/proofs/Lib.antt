@@ -1,5 +1,5 @@
 pub mod ClassLemmas
-pub mod CutLemmas
+pub mod CutLaws
 pub mod ExpandedLemmas
 pub mod ExpandingLemmas
 pub mod GrowsLemmas
@@ -19,3 +19,4 @@ pub mod StringLemmas
 pub mod TextLemmas
 pub mod TokenLemmas
 pub mod TokensLemmas
+pub mod TokensLaws

@@ -11,7 +11,7 @@ use Rattle.zim_lex.specs.declared.lines.Line.{Line}
 use Rattle.zim_lex.specs.Pieces.{is_piece, token_of}
 use Rattle.zim_lex.specs.Cut.{longest, stuck_at, cut}
 use Rattle.zim_lex.specs.Tokens.{placed_token, tokens_at, met_at, line_tokens, with_line}
-use Rattle.zim_lex.proofs.CutLemmas.{front_of, cut-nil, cut-turn, cut-stuck}
+use Rattle.zim_lex.proofs.CutLaws.{front_of, cut-nil, cut-turn, cut-stuck}
 
 -- the tokens so far, and those of the bytes that are left of a line
 abbrev pub with_bytes : List Placed → Place → List ℕ → Answer (List Placed) Fault

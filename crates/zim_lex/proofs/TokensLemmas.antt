@@ -14,7 +14,7 @@ use Rattle.zim_lex.specs.declared.faults.LexFault.TheVariants.{Fault, Memory}
 use Rattle.zim_lex.specs.Causes.{lex_cause, IfMet}
 use Rattle.zim_lex.specs.Cut.{IsStuck, cut}
 use Rattle.zim_lex.specs.Tokens.{tokens_at, AreLineTokens, AreTokens, none, more, IsFirstStuck, here, later, met_at, line_tokens, with_line, tokens_of}
-use Rattle.zim_lex.proofs.CutLemmas.{cut_is, cut_fails}
+use Rattle.zim_lex.proofs.CutLaws.{cut_is, cut_fails}
 
 line_tokens_are : (line : Line) (tokens : List Placed) → line_tokens line ≡ Ok tokens → AreLineTokens line tokens
 unfolding line_tokens

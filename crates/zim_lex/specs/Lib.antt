@@ -16,4 +16,5 @@ pub mod Spelled
 pub mod Statements
 pub mod Text
 pub mod Tokens
+pub mod TokensLaw
 pub mod Unread

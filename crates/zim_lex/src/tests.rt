@@ -130,6 +130,29 @@ fn an_include_line_is_replaced(rt: HostRuntime) -> Result<(), Fail> {
 }
 
 #[test]
+fn an_included_file_includes_another(rt: HostRuntime) -> Result<(), Fail> {
+    let texts = [
+        (b"m".as_slice(), b"include \"v\"\nvar z;".as_slice()),
+        (b"v".as_slice(), b"var x;\ninclude \"w\"".as_slice()),
+        (b"w".as_slice(), b"var y;".as_slice()),
+    ];
+    let mut folder = folder_of(rt.alloc(), &texts)?;
+    let replaced = match load(rt.alloc(), &mut folder, b"m") {
+        Ok(loaded) => {
+            let lines = loaded.lines.as_slice();
+            lines.len() == 3
+                && lines[0].place == Place { file: 1, line: 1 }
+                && lines[1].bytes.as_slice() == b"var y;".as_slice()
+                && lines[1].place == Place { file: 2, line: 1 }
+                && lines[2].place == Place { file: 0, line: 2 }
+        }
+        Err(_) => false,
+    };
+    assert!(rt; replaced);
+    Ok(())
+}
+
+#[test]
 fn a_file_that_includes_itself_is_too_deep(rt: HostRuntime) -> Result<(), Fail> {
     let mut folder = folder_of(rt.alloc(), &[(b"m", b"include \"m\"")])?;
     let loaded = load(rt.alloc(), &mut folder, b"m");

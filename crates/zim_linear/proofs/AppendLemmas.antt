@@ -5,7 +5,7 @@ use Rattle.zim_fraction.specs.Answers.{sum_answer}
 use Rattle.zim_rational.specs.Rational.{Rational, plus}
 use Rattle.zim_linear.specs.Forms.{Term, LinearForm, form_of, AreTermsFrom, AreTerms}
 use Rattle.zim_linear.specs.Sums.{HaveSumsWithin, IsMerged, IsSumWithin, IsSumOf}
-use Rattle.zim_linear.proofs.FormLemmas.{columns_append, sum_at_append}
+use Rattle.zim_linear.proofs.FormLaws.{columns_append, sum_at_append}
 use Rattle.zim_linear.proofs.MergeLemmas.{no_column, lower_from}
 use Rattle.zim_linear.proofs.SumLemmas.{added_answer}
 

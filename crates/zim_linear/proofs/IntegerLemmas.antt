@@ -6,7 +6,7 @@ use Rattle.std.proofs.lemmas.Nat.Gcd.{dvd_refl, dvd_trans, le_of_dvd}
 use Rattle.zim_fraction.specs.Limit.{limit}
 use Rattle.zim_fraction.specs.Answers.{lcm_answer}
 use Rattle.zim_fraction.specs.declared.fault.Past.{Past}
-use Rattle.zim_fraction.proofs.PartLemmas.{carried}
+use Rattle.zim_fraction.proofs.PartLaws.{carried}
 use Rattle.zim_rational.specs.Gcd.{lcm}
 use Rattle.zim_rational.proofs.Fraction.{denom-pos}
 use Rattle.zim_rational.proofs.Multiples.{lcm-pos, left_divides, right_divides, lcm_least}

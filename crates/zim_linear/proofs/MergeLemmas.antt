@@ -5,7 +5,7 @@ use Rattle.zim_rational.specs.Rational.{Rational, zero, plus, times}
 use Rattle.zim_rational.proofs.Ring.{zero_plus, plus_zero, plus_assoc, plus_left_comm, plus_times, zero_times}
 use Rattle.zim_linear.specs.Forms.{Term, Assignment, sum_at, AreTermsFrom, AreTerms, AreColumns}
 use Rattle.zim_linear.specs.Sums.{HasSumWithin, HaveSumsWithin, IsMerged, PushesSum}
-use Rattle.zim_linear.proofs.FormLemmas.{columns_append, same_or_other, sum_at_none, sum_at_more, sum_at_append}
+use Rattle.zim_linear.proofs.FormLaws.{columns_append, same_or_other, sum_at_none, sum_at_more, sum_at_append}
 
 -- of two lists, some terms are merged, and two rests are left
 pub record IsMerging (xs ys made left right : List Term) : Type 0 where

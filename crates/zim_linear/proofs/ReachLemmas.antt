@@ -10,8 +10,8 @@ use Rattle.zim_linear.specs.Ends.{sides_at, IsBetween, AreBetween, IsUncrossed, 
 use Rattle.zim_linear.specs.declared.sides.Sides.{Sides}
 use Rattle.zim_linear.specs.declared.sides.End.{End}
 use Rattle.zim_linear.specs.declared.sides.End.TheVariants.{Least, Greatest}
-use Rattle.zim_linear.proofs.FormLemmas.{sum_at_none, sum_at_more}
-use Rattle.zim_linear.proofs.RangeLemmas.{HasStep, step_of, finite, ends_kept}
+use Rattle.zim_linear.proofs.FormLaws.{sum_at_none, sum_at_more}
+use Rattle.zim_linear.proofs.RangeLaws.{HasStep, step_of, finite, ends_kept}
 
 -- ---- the side that counts lies between the sides
 

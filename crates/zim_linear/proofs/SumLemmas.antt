@@ -7,7 +7,7 @@ use Rattle.zim_linear.specs.Sums.{IsMerged, IsSumOf, IsSumWithin}
 use Rattle.zim_fraction.specs.Limit.{is_sum_within}
 use Rattle.zim_fraction.specs.Answers.{sum_answer}
 use Rattle.zim_fraction.specs.declared.fault.Past.{Past}
-use Rattle.zim_linear.proofs.AnswerLemmas.{sum_ok, sum_past}
+use Rattle.zim_linear.proofs.AnswerLaws.{sum_ok, sum_past}
 use Rattle.std.specs.Prelude.{List}
 
 regrouped : (a b c d : Rational) → plus (plus a b) (plus c d) ≡ plus (plus a c) (plus b d)

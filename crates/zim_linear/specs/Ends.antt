@@ -67,6 +67,13 @@ end_from end sides sum (t ∷ ts) =
 unfoldable pub end_answer : End → List Sides → List Term → Result (Option Rational) Past
 end_answer end sides terms = cond (has_end end sides terms) (end_from end sides zero terms) (Ok None)
 
+-- the least number of the terms, and the greatest
+abbrev pub least_answer : List Sides → List Term → Result (Option Rational) Past
+least_answer sides terms = end_answer Least sides terms
+
+abbrev pub greatest_answer : List Sides → List Term → Result (Option Rational) Past
+greatest_answer sides terms = end_answer Greatest sides terms
+
 -- both ends of the terms, past where one of them is
 abbrev pub EndsAnswer : List Sides → List Term → Result Sides Past → Type 0
 EndsAnswer sides terms (Ok ends) = (end_answer Least sides terms ≡ Ok ends.low) × (end_answer Greatest sides terms ≡ Ok ends.high)

@@ -84,8 +84,8 @@ impl Form {
         Ok(())
     }
 
-    // A form of terms in column order, none with coefficient 0.
-    pub(crate) fn of_terms(terms: Vec<Term>, constant: Fraction) -> Form
+    /// The form of terms in column order, none with coefficient 0, and a constant.
+    pub fn of_terms(terms: Vec<Term>, constant: Fraction) -> Form
         requires { AreTerms terms.items }
         ensures { result ≡ form_of terms.items constant }
     {

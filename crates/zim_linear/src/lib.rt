@@ -22,4 +22,4 @@ pub use form::{Form, Term};
 pub use integers::{IntegerForm, integer_form};
 pub use multiple::scale;
 pub use sides::Sides;
-pub use sum::{add, add_to, sub};
+pub use sum::{add, add_to, negated, sub};

@@ -106,8 +106,8 @@ pub fn sub(alloc: Global, a: &Form, b: &Form) -> Result<Form, LinFault>
     add(alloc, a, &turned)
 }
 
-// The form with all its signs turned.
-fn negated(alloc: Global, a: &Form) -> Result<Form, Memory>
+/// -a, the form with all its signs turned.
+pub fn negated(alloc: Global, a: &Form) -> Result<Form, Memory>
     ensures { IfOk result (λ form. form ≡ negated_form a.now) }
 {
     let terms = negated_terms(alloc, a.terms())?;

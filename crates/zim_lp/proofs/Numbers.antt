@@ -20,8 +20,8 @@ use Rattle.zim_rational.proofs.Fraction.{denom-pos}
 use Rattle.zim_fraction.specs.Limit.{limit}
 use Rattle.zim_decimal.specs.Short.{scale, is_short, decimals, point_and, whole_text, decimal_text, short_text}
 use Rattle.zim_decimal.specs.Token.{are_digits}
-use Rattle.zim_decimal.proofs.TokenLemmas.{all_digits}
-use Rattle.zim_decimal.proofs.ValueLemmas as value
+use Rattle.zim_decimal.proofs.TokenLaws.{all_digits}
+use Rattle.zim_decimal.proofs.ValueLaws as value
 use Rattle.zim_lp.specs.Words.{is_empty}
 use Rattle.zim_lp.specs.Numerals.{number_without_sign, number_of_word}
 use Rattle.zim_lp.specs.FileText.{WrittenNumber, number_text}

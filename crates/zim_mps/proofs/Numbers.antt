@@ -16,8 +16,8 @@ use Rattle.zim_fields.specs.Fields.{is_empty, IsPlainByte, IsField}
 use Rattle.zim_decimal.specs.Short.{scale, is_short}
 use Rattle.zim_decimal.specs.Token.{are_digits, is_point, from_first}
 use Rattle.zim_decimal.specs.Reading.{number_of_parts, number_without_sign, number_of_text}
-use Rattle.zim_decimal.proofs.TokenLemmas.{all_digits}
-use Rattle.zim_linear.proofs.WholeFormLemmas.{whole_from_divides, divides_from_whole}
+use Rattle.zim_decimal.proofs.TokenLaws.{all_digits}
+use Rattle.zim_linear.proofs.WholeFormLaws.{whole_from_divides, divides_from_whole}
 use Rattle.zim_rows.specs.Program.{IsShortRange}
 use Rattle.zim_rows.proofs.ShortLaws.{short_from_divides, divides_from_short}
 

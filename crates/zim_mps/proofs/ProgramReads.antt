@@ -10,9 +10,9 @@ use Rattle.zim_rational.specs.Rational.{Rational, zero, one, whole, ratio, plus,
 use Rattle.zim_rational.proofs.Parts.{signed-abs, ratio-parts, negate-parts, abs_negated}
 use Rattle.zim_rational.proofs.Ring.{minus_is}
 use Rattle.zim_fraction.specs.Limit.{limit, common_denom, common_numer, is_sum_within}
-use Rattle.zim_fraction.proofs.SumLemmas.{sum_parts, common_ratio, common_denom-pos}
+use Rattle.zim_fraction.proofs.SumLaws.{sum_parts, common_ratio, common_denom-pos}
 use Rattle.zim_decimal.specs.Short.{is_short}
-use Rattle.zim_decimal.proofs.ValueLemmas.{short_text_reads}
+use Rattle.zim_decimal.proofs.ValueLaws.{short_text_reads}
 use Rattle.zim_linear.specs.Forms.{Term}
 use Rattle.zim_rows.specs.declared.rows.Column.{Column}
 use Rattle.zim_rows.specs.declared.rows.Row.{Row}

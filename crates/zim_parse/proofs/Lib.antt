@@ -10,5 +10,6 @@ pub mod WholeSound
 pub mod StatementTurns
 pub mod StatementForms
 pub mod WholeParse
-pub mod OneAnswer
-pub mod Meaning
+pub mod OneAnswerLaws
+pub mod MeaningLaws
+pub mod AnswerLaws

@@ -5,9 +5,9 @@ use Rattle.zim_fault.specs.declared.tokens.Placed.{Placed}
 use Rattle.zim_tree.specs.Levels.{placed}
 use Rattle.zim_tree.specs.StatementGrammar.{ReadsStatement}
 use Rattle.zim_tree.specs.Plain.{nowhere, to_nowhere}
-use Rattle.zim_tree.proofs.DerivationSpelling.{tokens}
-use Rattle.zim_tree.proofs.StatementDerivationSpelling.{statement-spelling}
-use Rattle.zim_tree.proofs.ReplacedStatements.{statement_replaced}
+use Rattle.zim_tree.proofs.DerivationSpellingLaws.{tokens}
+use Rattle.zim_tree.proofs.StatementSpellingLaws.{statement-spelling}
+use Rattle.zim_tree.proofs.ReplacedStatementLaws.{statement_replaced}
 use Rattle.zim_tree.specs.PlainStatement.{plain_statement}
 use Rattle.zim_parse.specs.StatementLaw.{OneStatement, ParserReadsStatements}
 use Rattle.zim_parse_expression.proofs.OneTreeLaws.{plain_tokens, plain_of_tokens}

@@ -1,5 +1,5 @@
 -- The laws of the answers: the same tokens have one answer at most, and a fault stands at one of them.
-use Rattle.std.specs.Prelude.{◌≡◌, List, map}
+use Rattle.std.specs.Prelude.{◌≡◌, List, ◌∷◌, map}
 use Rattle.std.specs.List.{Contains}
 use Rattle.zim_fault.specs.declared.faults.Place.{Place}
 use Rattle.zim_fault.specs.declared.faults.Fault.{Fault}
@@ -26,3 +26,12 @@ places_of = map (λ (t : Placed). t.place)
 -- the fault of tokens stands at one of them
 abbrev pub FaultIsAtToken : Type 0
 FaultIsAtToken = (ts : List Placed) (f : Fault) → Refuses ts f → Contains (places_of ts) f.place
+
+-- tokens are a statement, or they have a fault
+pub data HasAnswer (ts : List Placed) : Type 0 where
+  accepted : (s : Stmt) → Accepts ts s → HasAnswer ts
+  refused : (f : Fault) → Refuses ts f → HasAnswer ts
+
+-- all tokens have an answer, where there is one token or more
+abbrev pub TokensHaveAnswer : Type 0
+TokensHaveAnswer = (t : Placed) (rest : List Placed) → HasAnswer (t ∷ rest)

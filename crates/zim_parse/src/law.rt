@@ -1,4 +1,4 @@
-ghost use Rattle.zim_parse.specs.AnswerLaw.{AcceptedAsOne, AcceptedIsNotRefused, FaultIsAtToken, RefusedWithOne};
+ghost use Rattle.zim_parse.specs.AnswerLaw.{AcceptedAsOne, AcceptedIsNotRefused, FaultIsAtToken, RefusedWithOne, TokensHaveAnswer};
 ghost use Rattle.zim_parse.specs.SpellingLaw.{MeansWhatIsSpelled, PlacesAreOfTokens, ReadIsSpelled, SpelledIsRead};
 ghost use Rattle.zim_parse.specs.StatementLaw.{OneStatement, ParserReadsStatements};
 
@@ -32,9 +32,10 @@ pub fn answers_mean_what_is_spelled()
     ensures { MeansWhatIsSpelled }
 {}
 
-/// Nothing to run: the contract is the law that the same tokens have one answer at most, and that a
-/// fault stands at one of them.
+/// Nothing to run: the contract is the law that tokens have exactly one answer, a statement or a fault,
+/// and that a fault stands at one of them.
 pub fn answers_are_unique()
+    ensures some { TokensHaveAnswer }
     ensures statement { AcceptedAsOne }
     ensures either { AcceptedIsNotRefused }
     ensures fault { RefusedWithOne }

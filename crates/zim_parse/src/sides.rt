@@ -13,7 +13,7 @@ use crate::counts::limits_kept;
 use crate::grammar::Grammar;
 use sqlite_items::{Boxed, Items};
 use zim_fault::{Sign, Token, Word};
-use zim_parse_expression::{Failure, Tokens, Wanted, repeat};
+use zim_parse_expression::{Failure, Terminal, Tokens, Wanted, repeat};
 use zim_tree::{Bracket, Class, Expr, Limit, ParSide, SetSide, Shape, class_of};
 
 /// Whether a word is `powerset` or `subsets`.
@@ -31,7 +31,7 @@ impl Grammar {
     {
         tokens.expect_sign(Sign::SLeftBrace)?;
         let reading = self.reading(tokens)?;
-        tokens.expect(Class::RightBrace)?;
+        tokens.expect(Terminal::RightBrace)?;
         Ok(SetSide::Read(reading))
     }
 
@@ -58,7 +58,7 @@ impl Grammar {
         if !is_family(word) {
             return Err(Failure::Syntax);
         }
-        tokens.expect(Class::LeftParen)?;
+        tokens.expect(Terminal::LeftParen)?;
         let given = self.arguments(tokens)?;
         let call = Boxed::new(self.alloc, Expr::Func(first.place, word, given))?;
         Ok(SetSide::Value(call))
@@ -247,7 +247,7 @@ impl Grammar {
         ensures { Gives (spec.bracket_of (parse self.now.depth) tokens.old) result tokens.new }
     {
         let inside = self.bracket_inside(tokens)?;
-        tokens.expect(Class::RightBracket)?;
+        tokens.expect(Terminal::RightBracket)?;
         Ok(inside)
     }
 
@@ -271,7 +271,7 @@ impl Grammar {
         if tokens.eat_sign(Sign::SLeftBracket).is_none() {
             return Ok(None);
         }
-        if tokens.eat(Class::RightBracket).is_some() {
+        if tokens.eat(Terminal::RightBracket).is_some() {
             return Ok(Some(Bracket::Empty));
         }
         let inside = self.bracket(tokens)?;

@@ -11,8 +11,8 @@ use crate::grammar::Grammar;
 use sqlite_items::{Boxed, Items};
 use std::alloc::Global;
 use zim_fault::{Bytes, Duplicate, Place, Sign, Token, Word};
-use zim_parse_expression::{Failure, Tokens, Wanted, items_of};
-use zim_tree::{Class, Doing, Printed, Shape, Stmt};
+use zim_parse_expression::{Failure, Terminal, Tokens, Wanted, items_of};
+use zim_tree::{Doing, Printed, Shape, Stmt};
 
 /// A name that comes next, with its place.
 #[tactic(auto, unfolding(crate::specs::StatementParser::name_of))]
@@ -33,11 +33,11 @@ fn name(tokens: &mut Tokens<'_>) -> Result<(Place, Bytes), Failure>
 fn parameters(alloc: Global, tokens: &mut Tokens<'_>) -> Result<Items<(Place, Bytes)>, Failure>
     ensures { Gives (spec.parameters_of tokens.old) result tokens.new }
 {
-    if tokens.eat(Class::RightParen).is_some() {
+    if tokens.eat(Terminal::RightParen).is_some() {
         return Ok(Items::new(alloc));
     }
     let names = items_of(alloc, tokens, |left| name(left))?;
-    tokens.expect(Class::RightParen)?;
+    tokens.expect(Terminal::RightParen)?;
     Ok(names)
 }
 
@@ -58,7 +58,7 @@ impl Grammar {
     {
         let mut ahead = tokens.ahead();
         let tuple = self.tuple(&mut ahead)?;
-        if ahead.eat(Class::In).is_some() {
+        if ahead.eat(Terminal::In).is_some() {
             return self.printed_value(tokens);
         }
         tokens.go_to(ahead);
@@ -151,7 +151,7 @@ impl Grammar {
     fn definition(&self, tokens: &mut Tokens<'_>, word: Word) -> Result<Shape, Failure>
         ensures { Gives (spec.definition_of (parse self.now.depth) word tokens.old) result tokens.new }
     {
-        tokens.expect(Class::LeftParen)?;
+        tokens.expect(Terminal::LeftParen)?;
         let parameters = parameters(self.alloc, tokens)?;
         tokens.expect_sign(Sign::SAssign)?;
         let inside = self.boxed(tokens, Wanted::Disjunction)?;

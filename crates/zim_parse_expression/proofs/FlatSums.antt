@@ -11,7 +11,7 @@ use Rattle.zim_tree.specs.declared.expr.Index.{Index}
 use Rattle.zim_tree.specs.declared.expr.Body.{Body}
 use Rattle.zim_tree.specs.Levels.{Level, primary, postfix, power, unary, product, big, loop, term, sum, comparison, negation, conjunction, disjunction, whole, Chain, products, sums, relations, conjunctions, disjunctions, operand_of, Operands, joined, compared, conjoined, disjoined}
 use Rattle.zim_tree.specs.Grammar.{Reads, ReadsOperands, a_number, a_text, a_truth, an_infinity, a_name, an_item, a_bare_call, a_call, a_function, a_projection, in_parentheses, in_braces, an_if, an_if_with_else, a_postfix, no_power, a_power, no_sign, a_sign, a_big, no_loop_sign, a_loop_sign, a_product, a_loop, a_product_with_loop, a_chain, a_member, no_not, a_not, no_forall, a_forall, no_operand, an_operand}
-use Rattle.zim_tree.proofs.NodeLemmas.{node_of}
+use Rattle.zim_tree.proofs.NodeLaws.{node_of}
 use Rattle.zim_parse_expression.specs.GroupingLaw.{is_sum_node, is_sum, OperandsAreNoSums}
 
 -- the levels that bind closer than a sum

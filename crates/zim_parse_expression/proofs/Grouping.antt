@@ -16,7 +16,7 @@ use Rattle.zim_tree.specs.Grammar.{Reads, a_number, a_name, a_postfix, no_power,
 use Rattle.zim_tree.specs.Plain.{to_nowhere, plain}
 use Rattle.zim_tree.specs.Spelling.{spelling}
 use Rattle.zim_tree.proofs.SpellingLaws.{spelling-Compare, spelling-Plus, spelling-Name, spelling-Number}
-use Rattle.zim_tree.proofs.ReplacedLemmas.{replaced-Compare, replaced-Plus}
+use Rattle.zim_tree.proofs.ReplacedLaws.{replaced-Compare, replaced-Plus}
 use Rattle.zim_parse_expression.specs.Law.{Tight}
 use Rattle.zim_parse_expression.specs.GroupingLaw.{minus_token, x_byte, y_byte, one_byte, two_byte, grouped_left, grouped_right, SubtractionGroupsLeft}
 use Rattle.zim_parse_expression.proofs.OneTreeLaws.{one_tree}

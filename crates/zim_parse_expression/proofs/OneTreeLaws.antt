@@ -8,8 +8,8 @@ use Rattle.zim_tree.specs.declared.expr.Expr.{Expr}
 use Rattle.zim_tree.specs.Levels.{Level, placed}
 use Rattle.zim_tree.specs.Grammar.{Reads}
 use Rattle.zim_tree.specs.Plain.{nowhere, to_nowhere, plain, replaced_tokens}
-use Rattle.zim_tree.proofs.DerivationSpelling.{tokens, reads-spelling}
-use Rattle.zim_tree.proofs.ReplacedDerivations.{reads_replaced}
+use Rattle.zim_tree.proofs.DerivationSpellingLaws.{tokens, reads-spelling}
+use Rattle.zim_tree.proofs.ReplacedDerivationLaws.{reads_replaced}
 use Rattle.zim_parse_expression.specs.Parser.{at_level, parse}
 use Rattle.zim_parse_expression.specs.Law.{OneTree, ParserReads}
 use Rattle.zim_parse_expression.proofs.PrimaryLaws.{loosest}

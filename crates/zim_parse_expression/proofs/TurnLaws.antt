@@ -1,5 +1,5 @@
 -- Lists that are read turn by turn, as loops read them; and the parser's own lists as such.
-use Rattle.std.proofs.Common.{◌≡◌, ℕ, zero, suc, ◌+◌, ◌-◌, ◌<◌, ◌≤◌, Bool, true, false, List, [], ◌∷◌, ◌++◌, length, map, Option, Some, None, refl, sym, ap, ◌∙◌, if◌then◌else◌, nat_eq, append_assoc, append-nil, map-id, arith}
+use Rattle.std.proofs.Common.{◌≡◌, ℕ, zero, suc, ◌+◌, ◌-◌, ◌<◌, ◌≤◌, Bool, true, false, List, [], ◌∷◌, ◌++◌, length, map, Some, None, refl, sym, ap, ◌∙◌, if◌then◌else◌, nat_eq, append_assoc, append-nil, map-id, arith}
 use Rattle.zim_fault.specs.declared.faults.Place.{Place}
 use Rattle.zim_fault.specs.declared.tokens.Token.{Token}
 use Rattle.zim_fault.specs.declared.tokens.Placed.{Placed}
@@ -196,32 +196,6 @@ pub marks_by_turns : (ts : List Placed) → repeat mark_turn (length ts) ts ≡ 
 unfolding repeat mark_turn marks_of and_then
 marks_by_turns [] = refl
 marks_by_turns (t ∷ rest) = marked t rest (marks_by_turns rest) (is_exclamation (class_at t))
-
--- the marks of an operand, as the loop reads them
-
-abbrev from_some : {A : Type 0} → A → Option A → A
-from_some d None = d
-from_some d (Some x) = x
-
-same_inside : {A : Type 0} (x y : A) → Some x ≡ Some y → x ≡ y
-same_inside x y e = ap (from_some x) e
-
-pub marks_begin : (places : List Place) (n : ℕ) (ts : List Placed) → n ≡ length ts → places ≡ [] → Some (marks_of ts) ≡ prepend places (repeat mark_turn (n - 0) ts)
-marks_begin places n ts h k = let all : n - 0 ≡ length ts = omega (arith, h) in rw (all, k) (sym (marks_by_turns ts) ∙ loop_begins mark_turn (length ts) ts)
-
-pub marks_stop : {m : List Place × List Placed} (places : List Place) (n at : ℕ) (ts : List Placed) {left : List Placed} → Some m ≡ prepend places (repeat mark_turn (n - at) ts) → at < n →
-    expect is_exclamation ts ≡ None → left ≡ ts → m ≡ (places, left)
-unfolding mark_turn
-marks_stop {m = m} places n at ts {left = left} h below none same =
-    same_inside m (places, left) (rw same (loop_stops mark_turn n at places ts h below (rw none refl)))
-
-pub marks_go_on : {m : Parsed (List Place)} (places more : List Place) (n at : ℕ) (ts : List Placed) {left : List Placed} {p : Place} → m ≡ prepend places (repeat mark_turn (n - at) ts) → at < n →
-    expect is_exclamation ts ≡ Some (p, left) → more ≡ places ++ p ∷ [] → m ≡ prepend more (repeat mark_turn (n - (at + 1)) left)
-unfolding mark_turn
-marks_go_on places more n at ts h below found longer = rw longer (loop_goes_on mark_turn n at places ts h below (rw found refl))
-
-pub marks_end : {m : List Place × List Placed} (places : List Place) (n at : ℕ) (ts : List Placed) → Some m ≡ prepend places (repeat mark_turn (n - at) ts) → n ≤ at → m ≡ (places, ts)
-marks_end {m = m} places n at ts h done = same_inside m (places, ts) (loop_ends mark_turn n at places ts h done)
 
 -- items behind commas, as loops read them
 

@@ -17,6 +17,8 @@ use Rattle.zim_parse_expression.specs.declared.failure.Failure.{Failure}
 use Rattle.zim_parse_expression.specs.declared.failure.Failure.TheVariants.{Syntax}
 use Rattle.zim_parse_expression.specs.declared.grammar.Wanted.{Wanted}
 use Rattle.zim_parse_expression.specs.declared.grammar.Wanted.TheVariants as wanted
+use Rattle.zim_parse_expression.specs.declared.terminals.Terminal.{Terminal}
+use Rattle.zim_parse_expression.specs.declared.terminals.Terminal.TheVariants as terminal
 use Rattle.zim_scan.specs.Nesting.{class_at, is_left_paren}
 use Rattle.zim_parse_expression.specs.Next.{Start, a_less, is_right_paren, is_right_bracket, is_right_brace, is_comma, is_less, is_greater, is_in, is_then, is_else, is_end, is_by, is_exclamation}
 use Rattle.zim_parse_expression.specs.Parser.{Parsed, Parser, parse}
@@ -85,24 +87,23 @@ abbrev pub is_forall : Class → Bool
 is_forall class.Forall = true
 is_forall _ = false
 
--- the test for a class that a rule names
-abbrev pub class_test : Class → Class → Bool
-class_test class.LeftParen = is_left_paren
-class_test class.RightParen = is_right_paren
-class_test class.RightBracket = is_right_bracket
-class_test class.RightBrace = is_right_brace
-class_test class.Comma = is_comma
-class_test class.Less = is_less
-class_test class.Greater = is_greater
-class_test class.In = is_in
-class_test class.Then = is_then
-class_test class.Else = is_else
-class_test class.End = is_end
-class_test class.By = is_by
-class_test class.Exclamation = is_exclamation
-class_test class.Not = is_not
-class_test class.Forall = is_forall
-class_test _ = λ _. false
+-- the test for a terminal that a rule names
+abbrev pub terminal_test : Terminal → Class → Bool
+terminal_test terminal.LeftParen = is_left_paren
+terminal_test terminal.RightParen = is_right_paren
+terminal_test terminal.RightBracket = is_right_bracket
+terminal_test terminal.RightBrace = is_right_brace
+terminal_test terminal.Comma = is_comma
+terminal_test terminal.Less = is_less
+terminal_test terminal.Greater = is_greater
+terminal_test terminal.In = is_in
+terminal_test terminal.Then = is_then
+terminal_test terminal.Else = is_else
+terminal_test terminal.End = is_end
+terminal_test terminal.By = is_by
+terminal_test terminal.Exclamation = is_exclamation
+terminal_test terminal.Not = is_not
+terminal_test terminal.Forall = is_forall
 
 -- the test for a sign that a rule of statements names
 abbrev pub sign_test : Sign → Token → Bool

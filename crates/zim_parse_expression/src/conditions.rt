@@ -13,12 +13,13 @@ ghost use Rattle.zim_parse_expression.specs.Turns.{repeat, operand_turn};
 use crate::failure::Failure;
 use crate::grammar::{Grammar, Wanted};
 use crate::next::{CONJUNCTION, DISJUNCTION, RELATION};
+use crate::terminals::Terminal;
 use crate::tokens::Tokens;
 use crate::turns::repeat;
 use sqlite_items::{Boxed, Items};
 use std::alloc::Global;
 use zim_fault::{Place, Relation, Sign, Token, Word};
-use zim_tree::{Class, Expr};
+use zim_tree::Expr;
 
 /// The relation that a sign spells.
 fn relation_of(token: &Token) -> Relation
@@ -103,7 +104,7 @@ impl<F: Fn(Global, &mut Tokens<'_>, usize, Wanted) -> Result<Expr, Failure>> Gra
         ensures { Gives (spec.member_of (parse self.now.depth) tokens.old) result tokens.new }
     {
         let tuple = self.tuple(tokens)?;
-        let place = tokens.expect(Class::In)?;
+        let place = tokens.expect(Terminal::In)?;
         let set = Boxed::new(self.alloc, self.sum(tokens)?)?;
         Ok(Expr::Member(place, tuple, set))
     }
@@ -150,7 +151,7 @@ impl<F: Fn(Global, &mut Tokens<'_>, usize, Wanted) -> Result<Expr, Failure>> Gra
         requires { Nests self.now.depth (F.pre self.now.inner) (F.post self.now.inner) }
         ensures { Gives (spec.negation_of (parse self.now.depth) tokens.old) result tokens.new }
     {
-        match tokens.eat(Class::Not) {
+        match tokens.eat(Terminal::Not) {
             None => self.comparison(tokens),
             Some(place) => {
                 let operand = Boxed::new(self.alloc, self.comparison(tokens)?)?;

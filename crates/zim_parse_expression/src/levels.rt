@@ -7,11 +7,12 @@ ghost use Rattle.zim_parse_expression.specs.Steps as steps;
 
 use crate::failure::Failure;
 use crate::grammar::{Grammar, Wanted};
+use crate::terminals::Terminal;
 use crate::tokens::Tokens;
 use sqlite_items::{Boxed, Items};
 use std::alloc::Global;
 use zim_fault::Place;
-use zim_tree::{Angle, Class, Expr, Index};
+use zim_tree::{Angle, Expr, Index};
 
 impl<F: Fn(Global, &mut Tokens<'_>, usize, Wanted) -> Result<Expr, Failure>> Grammar<F> {
     /// A `forall` behind its word.
@@ -32,7 +33,7 @@ impl<F: Fn(Global, &mut Tokens<'_>, usize, Wanted) -> Result<Expr, Failure>> Gra
         requires { Nests self.now.depth (F.pre self.now.inner) (F.post self.now.inner) }
         ensures { Gives (spec.whole_of (parse self.now.depth) tokens.old) result tokens.new }
     {
-        match tokens.eat(Class::Forall) {
+        match tokens.eat(Terminal::Forall) {
             None => self.disjunction(tokens),
             Some(place) => self.forall(tokens, place),
         }

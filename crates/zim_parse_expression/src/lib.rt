@@ -12,6 +12,7 @@ mod next;
 mod powers;
 mod primary;
 mod products;
+mod terminals;
 mod tokens;
 mod turns;
 
@@ -19,5 +20,6 @@ pub use failure::Failure;
 pub use grammar::Wanted;
 pub use law::{expressions_are_unique, parser_reads_expressions, subtraction_groups_left};
 pub use levels::{arguments, expression, expressions, index, tuple};
+pub use terminals::Terminal;
 pub use tokens::Tokens;
 pub use turns::{items_behind, items_of, repeat};

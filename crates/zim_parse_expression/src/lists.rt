@@ -7,12 +7,13 @@ ghost use Rattle.zim_parse_expression.specs.Parser.{parse};
 
 use crate::failure::Failure;
 use crate::grammar::{Grammar, Wanted};
+use crate::terminals::Terminal;
 use crate::tokens::Tokens;
 use crate::turns::{items_behind, items_of};
 use sqlite_items::{Boxed, Items};
 use std::alloc::Global;
 use zim_fault::Place;
-use zim_tree::{Angle, Class, Expr, Index};
+use zim_tree::{Angle, Expr, Index};
 
 impl<F: Fn(Global, &mut Tokens<'_>, usize, Wanted) -> Result<Expr, Failure>> Grammar<F> {
     /// The expressions with commas between them of which the first was read.
@@ -43,7 +44,7 @@ impl<F: Fn(Global, &mut Tokens<'_>, usize, Wanted) -> Result<Expr, Failure>> Gra
         ensures { Gives (spec.arguments (parse self.now.depth) tokens.old) result tokens.new }
     {
         let given = self.exprs(tokens, Wanted::Disjunction)?;
-        tokens.expect(Class::RightParen)?;
+        tokens.expect(Terminal::RightParen)?;
         Ok(given)
     }
 
@@ -53,9 +54,9 @@ impl<F: Fn(Global, &mut Tokens<'_>, usize, Wanted) -> Result<Expr, Failure>> Gra
         requires { Nests self.now.depth (F.pre self.now.inner) (F.post self.now.inner) }
         ensures { Gives (spec.tuple_of (parse self.now.depth) tokens.old) result tokens.new }
     {
-        let place = tokens.expect(Class::Less)?;
+        let place = tokens.expect(Terminal::Less)?;
         let items = self.exprs(tokens, Wanted::Sum)?;
-        tokens.expect(Class::Greater)?;
+        tokens.expect(Terminal::Greater)?;
         Ok(Angle { place, items })
     }
 
@@ -109,7 +110,7 @@ impl<F: Fn(Global, &mut Tokens<'_>, usize, Wanted) -> Result<Expr, Failure>> Gra
         ensures { Gives (spec.index_from (parse self.now.depth) tokens.old) result tokens.new }
     {
         let tuple = self.tuple(tokens)?;
-        let place = tokens.expect(Class::In)?;
+        let place = tokens.expect(Terminal::In)?;
         let index = self.index_behind(tokens, tuple, place)?;
         Ok(Boxed::new(self.alloc, index)?)
     }

@@ -1,24 +1,31 @@
 //! Factorials.
 
-ghost use Rattle.std.specs.Prelude.{◌≡◌, IfOk};
-ghost use Rattle.zim_parse_expression.specs.Parser as spec;
+ghost use Rattle.std.specs.Prelude.{length};
+ghost use Rattle.zim_parse_expression.specs.Outcome.{Gives};
+ghost use Rattle.zim_parse_expression.specs.Turns.{mark_turn, repeat};
 
+use crate::failure::Failure;
+use crate::terminals::Terminal;
 use crate::tokens::Tokens;
+use crate::turns::repeat;
 use sqlite_items::Items;
-use std::alloc::{AllocError, Global};
+use std::alloc::Global;
 use zim_fault::Place;
-use zim_tree::Class;
 
-/// Takes every `!` that comes next.
-pub fn marks(alloc: Global, tokens: &mut Tokens<'_>) -> Result<Items<Place>, AllocError>
-    ensures { IfOk result (λ places. spec.marks_of tokens.old ≡ (places, tokens.new)) }
+/// The next `!`, for its place, if one comes next.
+#[tactic(auto, unfolding(crate::specs::Turns::mark_turn))]
+fn next_mark(tokens: &mut Tokens<'_>) -> Result<Option<Place>, Failure>
+    ensures { Gives (mark_turn tokens.old) result tokens.new }
 {
-    let mut places = Items::new(alloc);
-    for _turn in 0..tokens.len() {
-        match tokens.eat(Class::Exclamation) {
-            None => return Ok(places),
-            Some(place) => places.push(place)?,
-        }
-    }
-    Ok(places)
+    let Some(place) = tokens.eat(Terminal::Exclamation) else {
+        return Ok(None);
+    };
+    Ok(Some(place))
+}
+
+/// Every `!` that comes next.
+pub fn marks(alloc: Global, tokens: &mut Tokens<'_>) -> Result<Items<Place>, Failure>
+    ensures { Gives (repeat mark_turn (length tokens.old) tokens.old) result tokens.new }
+{
+    repeat(alloc, tokens, tokens.len(), |left| next_mark(left))
 }

@@ -3,35 +3,11 @@
 ghost use Rattle.std.specs.Prelude.{◌≡◌};
 ghost use Rattle.zim_parse_expression.specs.Next as spec;
 ghost use Rattle.zim_parse_expression.specs.Parser as parser;
-ghost use Rattle.zim_parse_expression.specs.Outcome.{class_test, sign_test, word_test};
+ghost use Rattle.zim_parse_expression.specs.Outcome.{sign_test, word_test};
 
 use zim_fault::{Placed, Sign, Token, Word};
 use zim_scan::begins_paren;
 use zim_tree::{Class, class_of};
-
-/// Whether the found class is the wanted one, of those that a rule names.
-pub fn is_class(wanted: Class, found: Class) -> bool
-    ensures { result ≡ class_test wanted found }
-{
-    match wanted {
-        Class::LeftParen => matches!(found, Class::LeftParen),
-        Class::RightParen => matches!(found, Class::RightParen),
-        Class::RightBracket => matches!(found, Class::RightBracket),
-        Class::RightBrace => matches!(found, Class::RightBrace),
-        Class::Comma => matches!(found, Class::Comma),
-        Class::Less => matches!(found, Class::Less),
-        Class::Greater => matches!(found, Class::Greater),
-        Class::In => matches!(found, Class::In),
-        Class::Then => matches!(found, Class::Then),
-        Class::Else => matches!(found, Class::Else),
-        Class::End => matches!(found, Class::End),
-        Class::By => matches!(found, Class::By),
-        Class::Exclamation => matches!(found, Class::Exclamation),
-        Class::Not => matches!(found, Class::Not),
-        Class::Forall => matches!(found, Class::Forall),
-        _ => false,
-    }
-}
 
 /// Whether the token is the wanted sign, of those that a rule of statements names.
 pub fn is_sign(wanted: Sign, token: &Token) -> bool

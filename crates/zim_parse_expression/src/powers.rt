@@ -11,11 +11,12 @@ use crate::failure::Failure;
 use crate::grammar::{Grammar, Wanted};
 use crate::marks::marks;
 use crate::next::{POWER, sign_in};
+use crate::terminals::Terminal;
 use crate::tokens::Tokens;
 use sqlite_items::{Boxed, Items};
 use std::alloc::Global;
 use zim_fault::{Place, Placed};
-use zim_tree::{Class, Expr};
+use zim_tree::Expr;
 
 /// The tree of an operand with `!` at these places.
 fn factorial(operand: Boxed<Expr>, marks: Items<Place>) -> Expr
@@ -28,7 +29,7 @@ fn factorial(operand: Boxed<Expr>, marks: Items<Place>) -> Expr
 }
 
 /// An operand with every `!` that comes next behind it.
-#[tactic(auto, unfolding(crate::specs::Steps::marks_behind))]
+#[tactic(auto, using(crate::proofs::TurnLaws::marks_by_turns), unfolding(crate::specs::Steps::marks_behind))]
 fn marks_behind(
     alloc: Global,
     tokens: &mut Tokens<'_>,
@@ -48,7 +49,7 @@ impl<F: Fn(Global, &mut Tokens<'_>, usize, Wanted) -> Result<Expr, Failure>> Gra
         ensures { Gives (spec.postfix_of (parse self.now.depth) tokens.old) result tokens.new }
     {
         let operand = self.primary(tokens)?;
-        if tokens.sees(Class::Exclamation) {
+        if tokens.sees(Terminal::Exclamation) {
             return marks_behind(self.alloc, tokens, Boxed::new(self.alloc, operand)?);
         }
         Ok(operand)

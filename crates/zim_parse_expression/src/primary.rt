@@ -10,6 +10,7 @@ ghost use Rattle.zim_tree.specs.Classes.{word_class, sign_class};
 
 use crate::failure::Failure;
 use crate::grammar::{Grammar, Wanted};
+use crate::terminals::Terminal;
 use crate::tokens::Tokens;
 use sqlite_items::{Boxed, Items};
 use std::alloc::Global;
@@ -29,7 +30,7 @@ impl<F: Fn(Global, &mut Tokens<'_>, usize, Wanted) -> Result<Expr, Failure>> Gra
         ensures { Gives (steps.span_behind (parse self.now.depth) from with_to tokens.old) result tokens.new }
     {
         let to = self.inner_boxed(tokens, Wanted::Sum)?;
-        if tokens.eat(Class::By).is_none() {
+        if tokens.eat(Terminal::By).is_none() {
             return Ok(Body::Span(from, with_to, to, None));
         }
         let by = self.inner_boxed(tokens, Wanted::Sum)?;
@@ -55,7 +56,7 @@ impl<F: Fn(Global, &mut Tokens<'_>, usize, Wanted) -> Result<Expr, Failure>> Gra
         ensures { Gives (steps.body_less (parse self.now.depth) tokens.old) result tokens.new }
     {
         let tuple = self.tuple(tokens)?;
-        match tokens.eat(Class::In) {
+        match tokens.eat(Terminal::In) {
             None => Ok(Body::Tuples(self.tuples_behind(tokens, tuple)?)),
             Some(place) => {
                 let index = self.index_behind(tokens, tuple, place)?;
@@ -87,7 +88,7 @@ impl<F: Fn(Global, &mut Tokens<'_>, usize, Wanted) -> Result<Expr, Failure>> Gra
         requires { Nests self.now.depth (F.pre self.now.inner) (F.post self.now.inner) }
         ensures { Gives (steps.call_behind (parse self.now.depth) place name tokens.old) result tokens.new }
     {
-        if tokens.eat(Class::RightParen).is_some() {
+        if tokens.eat(Terminal::RightParen).is_some() {
             return Ok(Expr::Call(place, name, Items::new(self.alloc)));
         }
         let given = self.arguments(tokens)?;
@@ -101,7 +102,7 @@ impl<F: Fn(Global, &mut Tokens<'_>, usize, Wanted) -> Result<Expr, Failure>> Gra
         ensures { Gives (steps.item_behind (parse self.now.depth) place name tokens.old) result tokens.new }
     {
         let index = self.exprs(tokens, Wanted::Sum)?;
-        tokens.expect(Class::RightBracket)?;
+        tokens.expect(Terminal::RightBracket)?;
         Ok(Expr::Item(place, name, index))
     }
 
@@ -130,12 +131,12 @@ impl<F: Fn(Global, &mut Tokens<'_>, usize, Wanted) -> Result<Expr, Failure>> Gra
         requires { Nests self.now.depth (F.pre self.now.inner) (F.post self.now.inner) }
         ensures { Gives (steps.otherwise (parse self.now.depth) tokens.old) result tokens.new }
     {
-        if tokens.eat(Class::Else).is_none() {
-            tokens.expect(Class::End)?;
+        if tokens.eat(Terminal::Else).is_none() {
+            tokens.expect(Terminal::End)?;
             return Ok(None);
         }
         let otherwise = self.inner_boxed(tokens, Wanted::Whole)?;
-        tokens.expect(Class::End)?;
+        tokens.expect(Terminal::End)?;
         Ok(Some(otherwise))
     }
 
@@ -163,7 +164,7 @@ impl<F: Fn(Global, &mut Tokens<'_>, usize, Wanted) -> Result<Expr, Failure>> Gra
         ensures { Gives (spec.if_from (parse self.now.depth) place vif tokens.old) result tokens.new }
     {
         let test = self.inner_boxed(tokens, Wanted::Disjunction)?;
-        tokens.expect(Class::Then)?;
+        tokens.expect(Terminal::Then)?;
         let branch = self.inner_boxed(tokens, Wanted::Whole)?;
         self.choice_end(tokens, place, vif, test, branch)
     }
@@ -174,7 +175,7 @@ impl<F: Fn(Global, &mut Tokens<'_>, usize, Wanted) -> Result<Expr, Failure>> Gra
         requires { Nests self.now.depth (F.pre self.now.inner) (F.post self.now.inner) }
         ensures { Gives (spec.function_from (parse self.now.depth) place word tokens.old) result tokens.new }
     {
-        tokens.expect(Class::LeftParen)?;
+        tokens.expect(Terminal::LeftParen)?;
         let given = self.arguments(tokens)?;
         Ok(Expr::Func(place, word, given))
     }
@@ -185,11 +186,11 @@ impl<F: Fn(Global, &mut Tokens<'_>, usize, Wanted) -> Result<Expr, Failure>> Gra
         requires { Nests self.now.depth (F.pre self.now.inner) (F.post self.now.inner) }
         ensures { Gives (spec.projection_from (parse self.now.depth) place tokens.old) result tokens.new }
     {
-        tokens.expect(Class::LeftParen)?;
+        tokens.expect(Terminal::LeftParen)?;
         let set = self.inner_boxed(tokens, Wanted::Disjunction)?;
-        tokens.expect(Class::Comma)?;
+        tokens.expect(Terminal::Comma)?;
         let positions = self.tuple(tokens)?;
-        tokens.expect(Class::RightParen)?;
+        tokens.expect(Terminal::RightParen)?;
         Ok(Expr::Proj(place, set, positions))
     }
 
@@ -218,12 +219,12 @@ impl<F: Fn(Global, &mut Tokens<'_>, usize, Wanted) -> Result<Expr, Failure>> Gra
         match sign {
             Sign::SLeftParen => {
                 let inner = self.inner_boxed(tokens, Wanted::Disjunction)?;
-                tokens.expect(Class::RightParen)?;
+                tokens.expect(Terminal::RightParen)?;
                 Ok(Expr::Paren(place, inner))
             }
             Sign::SLeftBrace => {
                 let body = Boxed::new(self.alloc, self.body(tokens)?)?;
-                tokens.expect(Class::RightBrace)?;
+                tokens.expect(Terminal::RightBrace)?;
                 Ok(Expr::Braces(place, body))
             }
             _ => Err(Failure::Syntax),

@@ -1,12 +1,13 @@
 ghost use Rattle.std.specs.Prelude.{◌≡◌, ◌∷◌, ◌<◌, ◌^◌, [], length, Some, None, MatchOption};
-ghost use Rattle.zim_parse_expression.specs.Outcome.{Gives, Finds, class_next, found_next, is_less_start, class_test, sign_test, word_test};
+ghost use Rattle.zim_parse_expression.specs.Outcome.{Gives, Finds, class_next, found_next, is_less_start, terminal_test, sign_test, word_test};
 ghost use Rattle.zim_parse_expression.specs.Steps.{operator_of, begins_operator, sees_class};
 ghost use Rattle.zim_parse_expression.specs.Next as next;
 ghost use Rattle.zim_parse_expression.specs.Parser as spec;
 ghost use Rattle.zim_parse_expression.specs.StatementTokens as named;
 
 use crate::failure::Failure;
-use crate::next::{class_looseness, is_class, is_minus, is_sign, is_word, opens};
+use crate::next::{class_looseness, is_minus, is_sign, is_word, opens};
+use crate::terminals::{Terminal, is_terminal};
 use std::marker::Model;
 use zim_fault::{Place, Placed, Sign, Token, Word};
 use zim_tree::{Class, class_of};
@@ -120,22 +121,22 @@ impl<'a> Tokens<'a> {
         }
     }
 
-    /// Whether the next token is of this class.
-    pub fn sees(&self, wanted: Class) -> bool
-        ensures { result ≡ sees_class (class_test wanted) self.now }
+    /// Whether this terminal comes next.
+    pub fn sees(&self, wanted: Terminal) -> bool
+        ensures { result ≡ sees_class (terminal_test wanted) self.now }
     {
         match self.rest {
             [] => false,
-            [first, ..] => is_class(wanted, class_of(&first.token)),
+            [first, ..] => is_terminal(wanted, class_of(&first.token)),
         }
     }
 
-    /// Takes the next token where it is of this class.
-    pub fn eat(&mut self, wanted: Class) -> Option<Place>
-        ensures { Finds (spec.expect (class_test wanted) self.old) result self.old self.new }
+    /// Takes the next token where it is this terminal.
+    pub fn eat(&mut self, wanted: Terminal) -> Option<Place>
+        ensures { Finds (spec.expect (terminal_test wanted) self.old) result self.old self.new }
     {
         match self.rest {
-            [first, rest @ ..] if is_class(wanted, class_of(&first.token)) => {
+            [first, rest @ ..] if is_terminal(wanted, class_of(&first.token)) => {
                 self.rest = rest;
                 Some(first.place)
             }
@@ -143,9 +144,9 @@ impl<'a> Tokens<'a> {
         }
     }
 
-    /// Takes the next token, which is to be of this class.
-    pub fn expect(&mut self, wanted: Class) -> Result<Place, Failure>
-        ensures { Gives (spec.expect (class_test wanted) self.old) result self.new }
+    /// Takes the next token, which is to be this terminal.
+    pub fn expect(&mut self, wanted: Terminal) -> Result<Place, Failure>
+        ensures { Gives (spec.expect (terminal_test wanted) self.old) result self.new }
     {
         match self.eat(wanted) {
             Some(place) => Ok(place),

@@ -7,10 +7,10 @@ ghost use Rattle.zim_parse_expression.specs.Parser.{Parser};
 ghost use Rattle.zim_parse_expression.specs.Turns.{Turn, repeat};
 
 use crate::failure::Failure;
+use crate::terminals::Terminal;
 use crate::tokens::Tokens;
 use sqlite_items::Items;
 use std::alloc::{AllocError, Global};
-use zim_tree::Class;
 
 /// Adds an item at the end. Most lists have one item, so the first takes room for itself alone.
 pub(crate) fn add<A: Drop>(alloc: Global, items: &mut Items<A>, item: A) -> Result<(), AllocError>
@@ -58,7 +58,7 @@ pub fn items_behind<A: Drop, I: Fn(&mut Tokens<'_>) -> Result<A, Failure>>(
     let mut items = Items::new(alloc);
     add(alloc, &mut items, first)?;
     for _turn in 0..tokens.len() {
-        match tokens.eat(Class::Comma) {
+        match tokens.eat(Terminal::Comma) {
             None => return Ok(items),
             Some(_comma) => {
                 let next = item(tokens)?;

@@ -9,8 +9,8 @@ use Rattle.zim_rational.proofs.Sums.{total_map_plus, total_map_same}
 use Rattle.zim_fraction.specs.Limit.{is_number, is_sum_within}
 use Rattle.zim_linear.specs.Forms.{Term, LinearForm, Assignment, AreTermsFrom, AreTerms, AreColumns, sum_at, number_at}
 use Rattle.zim_linear.specs.Sums.{HasSumWithin, HaveSumsWithin, IsSumWithin, IsSumOf}
-use Rattle.zim_linear.proofs.FormLemmas.{sum_at_none, sum_at_more}
-use Rattle.zim_linear.proofs.ProbeLemmas.{only, nowhere, sum_nowhere, sum_below, sum_first}
+use Rattle.zim_linear.proofs.FormLaws.{sum_at_none, sum_at_more}
+use Rattle.zim_linear.proofs.ProbeLaws.{only, nowhere, sum_nowhere, sum_below, sum_first}
 use Rattle.zim_plain.specs.Parts.{with_one, sum_of_column, coefficient_in, coefficient_at, AreNumbers}
 use Rattle.zim_plain.proofs.Limits.{sum_with_zero, zero_with_sum, sum_is_number}
 

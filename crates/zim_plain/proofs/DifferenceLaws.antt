@@ -8,7 +8,7 @@ use Rattle.zim_rational.proofs.Ring.{negate_zero}
 use Rattle.zim_fraction.specs.Limit.{is_number, is_sum_within}
 use Rattle.zim_linear.specs.Forms.{Term, LinearForm}
 use Rattle.zim_linear.specs.Sums.{negated_terms, negated_form, IsDifferenceWithin, IsDifferenceOf}
-use Rattle.zim_linear.proofs.NegationLemmas.{negated_from}
+use Rattle.zim_linear.proofs.NegationLaws.{negated_from}
 use Rattle.zim_plain.specs.Statements.{Text, Item, Sum, items_of}
 use Rattle.zim_plain.specs.Meaning.{sum_number}
 use Rattle.zim_plain.specs.Suits.{SuitsSum}

@@ -22,6 +22,6 @@ pub mod ReaderLaws
 pub mod ModelLaws
 pub mod FaultLaws
 pub mod ReplacedTrees
-pub mod FaultPlaces
+pub mod FaultPlaceLaws
 pub mod WrittenLaws
 pub mod WrittenPlaces

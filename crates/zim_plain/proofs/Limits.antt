@@ -9,7 +9,7 @@ use Rattle.std.proofs.lemmas.Int.{ints}
 use Rattle.zim_rational.specs.Rational.{Rational, ratio, zero, one, plus, negate, whole}
 use Rattle.zim_rational.proofs.Parts.{ratio-parts, signed-abs, negate-parts, abs_negated}
 use Rattle.zim_fraction.specs.Limit.{limit, is_number, is_sum_within, common_denom, common_numer, numer_over}
-use Rattle.zim_fraction.proofs.SumLemmas.{sum_parts, sum_from_parts, common_ratio, common_denom-pos}
+use Rattle.zim_fraction.proofs.SumLaws.{sum_parts, sum_from_parts, common_ratio, common_denom-pos}
 
 number_from : (q : Rational) → unsigned_abs q.numer ≤ limit → q.denom ≤ limit → IsTrue (is_number q)
 number_from q n d = and_from (nat_le (unsigned_abs q.numer) limit) (nat_le q.denom limit) (le-leb (unsigned_abs q.numer) limit n) (le-leb q.denom limit d)

@@ -13,9 +13,9 @@ use Rattle.zim_fraction.specs.declared.fault.Past as fraction
 use Rattle.zim_fraction.specs.declared.fault.NumFault.{NumFault}
 use Rattle.zim_fraction.specs.declared.fault.NumFault.TheVariants as num
 use Rattle.zim_fraction.specs.Answers.{number_answer, quotient_answer}
-use Rattle.zim_fraction.proofs.AnswerLemmas.{quotient_answer_some}
+use Rattle.zim_fraction.proofs.AnswerLaws.{quotient_answer_some}
 use Rattle.zim_decimal.specs.Literal.{digits_of, significand, power_of_ten, scaled, value_answer, is_near, scaled_answer, literal_answer}
-use Rattle.zim_decimal.proofs.DigitLemmas.{ten_at_least}
+use Rattle.zim_decimal.proofs.DigitLaws.{ten_at_least}
 use Rattle.zim_plain.specs.Statements.{Literal, Divisor, Coefficient, Item, Constant, Multiple}
 use Rattle.zim_plain.specs.Meaning.{literal_number, coefficient_number, signed}
 use Rattle.zim_plain.specs.Faults.{fault_at, literal_fault, divisor_fault, coefficient_fault, item_fault, amount}

@@ -16,7 +16,7 @@ use Rattle.zim_linear.specs.Sums.{IsSumWithin, AddedAnswer}
 use Rattle.zim_linear.specs.Multiples.{IsMultipleWithin, IsMultipleOf}
 use Rattle.zim_linear.specs.declared.faults.LinFault.{LinFault}
 use Rattle.zim_linear.specs.declared.faults.LinFault.TheVariants.{Past, Memory}
-use Rattle.zim_linear.proofs.FormLemmas.{sum_at_none, sum_at_more, sum_at_append}
+use Rattle.zim_linear.proofs.FormLaws.{sum_at_none, sum_at_more, sum_at_append}
 use Rattle.zim_plain.specs.declared.parts.Part.{Part}
 use Rattle.std.specs.Global.{Vec}
 use Rattle.zim_plain.specs.declared.parts.Side.{Side}

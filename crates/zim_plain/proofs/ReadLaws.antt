@@ -12,7 +12,7 @@ use Rattle.zim_rational.proofs.Ring.{zero_plus}
 use Rattle.zim_fraction.specs.Limit.{is_number, is_sum_within}
 use Rattle.zim_fraction.specs.Answers.{sum_answer}
 use Rattle.zim_fraction.specs.declared.fault.Past as fraction
-use Rattle.zim_linear.proofs.AnswerLemmas.{sum_ok, sum_past, sum_value}
+use Rattle.zim_linear.proofs.AnswerLaws.{sum_ok, sum_past, sum_value}
 use Rattle.zim_plain.specs.declared.parts.Part.{Part}
 use Rattle.zim_plain.specs.declared.statement.Further as code
 use Rattle.zim_plain.specs.Reader.{item_of, further_of}

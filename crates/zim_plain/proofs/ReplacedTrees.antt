@@ -13,7 +13,7 @@ use Rattle.zim_tree.specs.declared.stmt.Shape.TheVariants as shape
 use Rattle.zim_tree.specs.Levels.{Operands, products, sums, joined}
 use Rattle.zim_tree.specs.Plain.{replaced}
 use Rattle.zim_tree.specs.PlainStatement.{replaced_statement}
-use Rattle.zim_tree.proofs.ReplacedLemmas.{replaced-Number, replaced-Name, replaced-Signed, replaced-Times, replaced-Plus, replaced-Compare}
+use Rattle.zim_tree.proofs.ReplacedLaws.{replaced-Number, replaced-Name, replaced-Signed, replaced-Times, replaced-Plus, replaced-Compare}
 use Rattle.zim_plain.specs.Statements.{Literal, Divisor, Coefficient, Factor, Item, Constant, Multiple, SignAt, Further, Sum, Head, Statement, Variable, Objective, Constraint, Model}
 use Rattle.zim_plain.specs.Trees.{tree_of_literal, with_sign, divisor_operand, tree_of_item, operand_of_further, tree_of_sum, relation_of_sense, headed, tree_of, trees_of}
 use Rattle.zim_plain.proofs.TreeLaws.{one_statement}

@@ -10,7 +10,7 @@ use Rattle.zim_rational.proofs.Ring.{minus_plus, plus_cancel, plus_negate, plus_
 use Rattle.zim_rational.proofs.Order.{plus_at_most, at_most_refl}
 use Rattle.zim_linear.specs.Forms.{Term, LinearForm, Assignment, sum_at, number_at}
 use Rattle.zim_linear.specs.Ends.{unbounded}
-use Rattle.zim_linear.proofs.UniqueLemmas.{one_form}
+use Rattle.zim_linear.proofs.UniqueLaws.{one_form}
 use Rattle.zim_decimal.specs.Short.{is_short}
 use Rattle.zim_rows.specs.declared.rows.Column.{Column}
 use Rattle.zim_rows.specs.declared.rows.GivenRow.{GivenRow}

@@ -8,7 +8,7 @@ use Rattle.zim_rational.specs.Rational.{Rational}
 use Rattle.zim_fraction.specs.declared.fault.Past.{Past}
 use Rattle.zim_decimal.specs.Token.{is_number, is_mark, is_point, is_field}
 use Rattle.zim_decimal.specs.Literal.{literal_answer, signed_answer, field_answer}
-use Rattle.zim_decimal.proofs.TokenLemmas.{whole_are_digits}
+use Rattle.zim_decimal.proofs.TokenLaws.{whole_are_digits}
 use Rattle.zim_plain.specs.Sides.{starts_with_sign}
 
 -- what begins with a byte that is no digit, mark or point is no number token

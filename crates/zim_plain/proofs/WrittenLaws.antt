@@ -16,8 +16,8 @@ use Rattle.zim_tree.specs.Classes.{token_class}
 use Rattle.zim_tree.specs.Grammar.{Reads, ReadsOperands, a_number, a_name, a_postfix, no_power, no_sign, a_sign, a_product, a_chain, no_not, no_forall, no_operand, an_operand}
 use Rattle.zim_tree.specs.StatementGrammar.{ReadsStatement, LimitsKept, goal_word, declared, no_bracket, no_kind, no_limit, not_given, a_var_statement, a_goal_statement, a_subto_statement, a_statement}
 use Rattle.zim_tree.specs.StatementSpelling.{spelled_of}
-use Rattle.zim_tree.proofs.DerivationSpelling.{tokens, tokens-append}
-use Rattle.zim_tree.proofs.StatementDerivationSpelling.{statement-spelling}
+use Rattle.zim_tree.proofs.DerivationSpellingLaws.{tokens, tokens-append}
+use Rattle.zim_tree.proofs.StatementSpellingLaws.{statement-spelling}
 use Rattle.zim_plain.specs.Statements.{Text, Literal, Divisor, Item, Constant, Multiple, SignAt, Further, Sum, Statement, Variable, Objective, Constraint, head_of}
 use Rattle.zim_plain.specs.Trees.{tree_of_literal, with_sign, divisor_operand, tree_of_item, operand_of_further, tree_of_sum, relation_of_sense, tree_of}
 use Rattle.zim_plain.specs.Written.{written_divisor, written_item, written_first_sign, written_further, written_list, written, Writing}

@@ -13,8 +13,8 @@ use Rattle.zim_rows.specs.declared.rows.Sense.TheVariants.{AtMost, AtLeast, Equa
 use Rattle.zim_tree.specs.Levels.{placed, sign_token_of}
 use Rattle.zim_tree.specs.StatementGrammar.{ReadsStatement, goal_word}
 use Rattle.zim_tree.specs.Spelling.{Tokens}
-use Rattle.zim_tree.proofs.DerivationSpelling.{tokens}
-use Rattle.zim_tree.proofs.StatementDerivationSpelling.{statement-spelling}
+use Rattle.zim_tree.proofs.DerivationSpellingLaws.{tokens}
+use Rattle.zim_tree.proofs.StatementSpellingLaws.{statement-spelling}
 use Rattle.zim_plain.specs.Statements.{Text, Literal, Divisor, Item, Constant, Multiple, SignAt, Further, Sum, Head, Statement, Variable, Objective, Constraint}
 use Rattle.zim_plain.specs.Trees.{tree_of}
 use Rattle.zim_plain.specs.Written.{written_divisor, written_item, written_first_sign, written_further, written_list, written_relation, written, IsWrittenInPlainForm, IsReadInPlainForm}

@@ -71,6 +71,17 @@ pub count_is : (system : LinearSystem) (marks : List Bool) (sides : List Sides) 
 count_is system marks sides rows objective kept view =
     ap (λ (s : LinearSystem). length s.columns) (sym view) ∙ length-columns_of marks sides kept.paired
 
+-- what holds of the system as it is kept holds of it as contracts see it
+pub is_valid : (system : LinearSystem) (marks : List Bool) (sides : List Sides) (rows : List GivenRow) (objective : Option Objective) → IsKept marks sides rows objective → ◌≡◌ {A = LinearSystem} (record { columns = columns_of marks sides; rows = rows; objective = objective }) system → IsSystem system.columns system.rows system.objective
+is_valid system marks sides rows objective kept view =
+    subst (λ (s : LinearSystem). IsSystem s.columns s.rows s.objective) view kept.system
+
+pub count_within : (marks : List Bool) (sides : List Sides) (rows : List GivenRow) (objective : Option Objective) (n : ℕ) → IsKept marks sides rows objective → n ≡ length sides → n ≤ 1000000
+count_within marks sides rows objective n kept e =
+    let few = kept.system.few_columns in
+    let same = length-columns_of marks sides kept.paired in
+    omega arith
+
 pub is_full : (system : LinearSystem) (marks : List Bool) (sides : List Sides) (rows : List GivenRow) (objective : Option Objective) (n : ℕ) → IsKept marks sides rows objective → ◌≡◌ {A = LinearSystem} (record { columns = columns_of marks sides; rows = rows; objective = objective }) system → n ≡ length sides → 1000000 ≤ n → most ≤ length system.columns
 is_full system marks sides rows objective n kept view len full =
     let e = count_is system marks sides rows objective kept view in omega arith

@@ -6,7 +6,7 @@ use Rattle.zim_rational.specs.Rational.{Rational, one, plus, IsAtMost}
 use Rattle.zim_rational.proofs.Ring.{plus_zero, one_times}
 use Rattle.zim_decimal.specs.Short.{is_short}
 use Rattle.zim_linear.specs.Forms.{Assignment, sum_at}
-use Rattle.zim_linear.proofs.FormLemmas.{sum_at_none, sum_at_more}
+use Rattle.zim_linear.proofs.FormLaws.{sum_at_none, sum_at_more}
 use Rattle.zim_rows.specs.declared.rows.Column.{Column}
 use Rattle.zim_rows.specs.declared.rows.GivenRow.{GivenRow}
 use Rattle.zim_rows.specs.declared.rows.RowKind.{RowKind}

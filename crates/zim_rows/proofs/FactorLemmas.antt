@@ -3,7 +3,7 @@ use Rattle.std.proofs.Common.{ℕ, ℤ, pos, ◌≡◌, ◌<◌, ◌≤◌, List
 use Rattle.std.specs.Prelude.{Result}
 use Rattle.std.specs.Result.{OkIff}
 use Rattle.std.specs.Int.{◌∣◌, w128}
-use Rattle.zim_fraction.proofs.PartLemmas.{carried}
+use Rattle.zim_fraction.proofs.PartLaws.{carried}
 use Rattle.std.proofs.lemmas.Bool.{le-leb, leb-true}
 use Rattle.std.proofs.lemmas.Nat.Gcd.{dvd_refl, dvd_trans, le_of_dvd}
 use Rattle.std.proofs.Math.Nat.{one-dvd}

@@ -9,8 +9,12 @@ pub mod EntryLemmas
 pub mod ColumnLemmas
 pub mod CoveredLemmas
 pub mod FinishLemmas
-pub mod ExtendLemmas
-pub mod CutLemmas
+pub mod ExtendLaws
+pub mod CutLaws
+pub mod ExtendingLaws
+pub mod StepLaws
+pub mod StepLemmas
+pub mod CoveredStepLaws
 pub mod NamedLaws
 pub mod RepresentLaws
 mod Examples

@@ -3,7 +3,7 @@ use Rattle.std.proofs.Common.{ℕ, pos, ◌≡◌, ◌<◌, ◌↔◌, List, [],
 use Rattle.zim_rational.specs.Rational.{Rational, zero, whole, plus, times}
 use Rattle.zim_rational.proofs.Ring.{plus_times, plus_zero}
 use Rattle.zim_linear.specs.Forms.{Term, LinearForm, Assignment, sum_at, number_at}
-use Rattle.zim_linear.proofs.FormLemmas.{sum_at_none}
+use Rattle.zim_linear.proofs.FormLaws.{sum_at_none}
 use Rattle.zim_rows.specs.declared.rows.GivenRow.{GivenRow}
 use Rattle.zim_rows.specs.declared.rows.Objective.{Objective}
 use Rattle.zim_rows.specs.declared.rows.RowKind.{RowKind}

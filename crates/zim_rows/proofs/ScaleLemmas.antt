@@ -7,8 +7,8 @@ use Rattle.zim_rational.proofs.Order.{times_at_most, at_most_times, below_at_mos
 use Rattle.zim_rational.proofs.Whole.{whole_below, times_cancel}
 use Rattle.zim_rational.proofs.Parts.{whole_different}
 use Rattle.zim_linear.specs.Forms.{Term, Assignment, sum_at, AreTermsFrom, AreColumns}
-use Rattle.zim_linear.proofs.FormLemmas.{sum_at_none, sum_at_more}
-use Rattle.zim_linear.proofs.ScaleLemmas.{scaled_times}
+use Rattle.zim_linear.proofs.FormLaws.{sum_at_none, sum_at_more}
+use Rattle.zim_linear.proofs.ScaleLaws.{scaled_times}
 use Rattle.zim_rows.specs.declared.rows.RowKind.{RowKind}
 use Rattle.zim_rows.specs.declared.rows.RowKind.TheVariants.{One, Range}
 use Rattle.zim_rows.specs.declared.rows.Sense.TheVariants.{AtLeast, AtMost, Equal}

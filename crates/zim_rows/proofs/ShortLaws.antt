@@ -11,7 +11,7 @@ use Rattle.zim_rational.proofs.Lowest.{gcd_comm}
 use Rattle.zim_rational.proofs.Ring.{times_assoc}
 use Rattle.zim_rational.proofs.Whole.{whole_times}
 use Rattle.zim_decimal.specs.Short.{scale, part, is_short}
-use Rattle.zim_linear.proofs.WholeFormLemmas.{whole_from_divides, divides_from_whole}
+use Rattle.zim_linear.proofs.WholeFormLaws.{whole_from_divides, divides_from_whole}
 use Rattle.zim_rows.specs.Factors.{scaled}
 
 pub short_from_divides : (q : Rational) → q.denom ∣ scale → IsTrue (is_short q)

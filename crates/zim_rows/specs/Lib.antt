@@ -9,3 +9,5 @@ pub mod Represents
 pub mod Entries
 pub mod Props
 pub mod Finished
+pub mod Steps
+pub mod Extending

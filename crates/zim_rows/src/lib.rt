@@ -6,7 +6,8 @@
 //! `specs/Points` says which numbers solve a system and what its objective is at them, `specs/Factors` what the factors
 //! are and when a number passes the limit, and `specs/Scaled` what finishing answers. `specs/Covered` says which sides
 //! files have, `specs/Named` has the names of columns and rows in files, and `specs/Represents` says when what a file says is
-//! a finished system.
+//! a finished system. What is declared or encoded makes a step, columns and rows that `add_step` puts at the ends:
+//! `specs/Steps` says when a step has room and how steps follow each other, and `specs/Extending` what they do to points.
 #![tactic(auto)]
 
 mod entries;
@@ -17,12 +18,17 @@ mod laws;
 mod offset;
 mod rows;
 mod scaled;
+mod steps;
 mod system;
 #[cfg(test)]
 mod tests;
 
 pub use faults::{EncodeFault, FinishFault, RowFault};
 pub use finished::Finished;
-pub use laws::{factors_are_least, later_points_begin_with_earlier_ones};
+pub use laws::{
+    covered_systems_stay_covered, factors_are_least, later_points_begin_with_earlier_ones,
+    points_go_on_by_what_fits, steps_follow_each_other, steps_that_fit_once_narrow,
+};
 pub use rows::{Column, GivenRow, Objective, Row, RowFrom, RowKind, Sense, Target};
+pub use steps::NewRow;
 pub use system::System;

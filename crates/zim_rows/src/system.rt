@@ -3,7 +3,7 @@ ghost use Rattle.zim_rational.specs.Rational.{Rational, IsBelow, times, whole};
 ghost use Rattle.zim_linear.specs.Forms.{AreTerms, AreColumns};
 ghost use Rattle.zim_linear.specs.Ends.{IsUncrossed};
 ghost use Rattle.zim_rows.specs.System as exact;
-ghost use Rattle.zim_rows.specs.System.{empty_system, column_of, column_at, row_of, with_objective, AreWholeSides, IsKind, ColumnAnswer, RowAdded};
+ghost use Rattle.zim_rows.specs.System.{empty_system, column_of, column_at, row_of, with_objective, AreWholeSides, IsKind, IsSystem, ColumnAnswer, RowAdded};
 ghost use Rattle.zim_rows.specs.Points.{IsSystemPoint, IsPoint, system_objective_at, objective_at};
 ghost use Rattle.zim_rows.specs.Program.{IsWithin, HasSidesWithin};
 ghost use Rattle.zim_rows.specs.Scaled.{FinishAnswer};
@@ -22,7 +22,7 @@ use zim_fraction::Fraction;
 use zim_linear::{Form, Sides, Term};
 
 /// How many columns a system has at most, and how many rows.
-const MOST: usize = 1_000_000;
+pub(crate) const MOST: usize = 1_000_000;
 
 /// A linear program that is being built: columns, rows and an objective.
 ///
@@ -62,6 +62,29 @@ impl System {
             rows: Sequence::new(alloc),
             objective: None,
         }
+    }
+
+    /// How many columns there are, at most 1,000,000.
+    pub fn column_count(&self) -> usize
+        ensures value { result ≡ length self.now.columns }
+        ensures within { result ≤ 1000000 }
+    {
+        self.sides.len()
+    }
+
+    /// How many rows there are, at most 1,000,000.
+    pub fn row_count(&self) -> usize
+        ensures value { result ≡ length self.now.rows }
+        ensures within { result ≤ 1000000 }
+    {
+        self.rows.len()
+    }
+
+    /// What holds of every system, for those who prove: the call does nothing.
+    pub fn valid(&self)
+        ensures { IsSystem self.now.columns self.now.rows self.now.objective }
+    {
+        let _ = &self.alloc;
     }
 
     /// The sides of all columns; those of column 1 stand first.
@@ -132,7 +155,12 @@ impl System {
     }
 
     // Adds a row of these terms and this kind at the end.
-    fn push_row(&mut self, from: RowFrom, terms: &[Term], kind: RowKind) -> Result<(), RowFault>
+    pub(crate) fn push_row(
+        &mut self,
+        from: RowFrom,
+        terms: &[Term],
+        kind: RowKind,
+    ) -> Result<(), RowFault>
         requires terms { AreTerms terms.now }
         requires columns { AreColumns (length self.old.columns) terms.now }
         requires kind { IsKind kind }

@@ -1,6 +1,6 @@
 -- What a speller put part by part is the join of the parts: `c.put_word.ensures ▸ c.spell.ensures`, in the order of the code.
 -- A loop keeps `Spells l.initial.to l.to (flat_map text (take l.x-index l.xs))`: `Spells-nothing` begins it, and `Spells-next` goes on.
-use Rattle.std.proofs.Common.{◌≡◌, ℕ, ◌+◌, ◌<◌, List, [], ◌∷◌, ◌++◌, map, length, take, get_or, Result, Ok, Err, refl, sym, ap, ◌∙◌, subst, append_assoc}
+use Rattle.std.proofs.Common.{◌≡◌, ℕ, ◌+◌, ◌<◌, List, [], ◌∷◌, ◌++◌, map, length, take, get_or, Option, None, Some, Result, Ok, Err, refl, sym, ap, ◌∙◌, subst, append_assoc}
 use Rattle.std.specs.Prelude.{⊤, IsOk, IfOk, OnOk}
 use Rattle.std.specs.List.{flat_map}
 use Rattle.std.proofs.lemmas.List.{take_more, append-nil, map-append}
@@ -8,8 +8,9 @@ use Rattle.std.proofs.lemmas.Grind.{flat_map-append}
 use Rattle.zim_fault.specs.declared.memory.Memory.{Memory}
 use Rattle.zim_fault.specs.declared.tokens.Token.{Token}
 use Rattle.zim_spelling.specs.declared.speller.Speller.{Speller}
-use Rattle.zim_tree.specs.Spelling.{Tokens}
-use Rattle.zim_spelling.specs.Speller.{Spells}
+use Rattle.zim_fault.specs.declared.words.Word.TheVariants.{WBy, WElse}
+use Rattle.zim_tree.specs.Spelling.{Tokens, by_part, else_part}
+use Rattle.zim_spelling.specs.Speller.{Spells, behind}
 
 nothing_before : (r : Result ⊤ Memory) → OnOk r (IsOk r)
 nothing_before (Ok _) = refl
@@ -88,3 +89,13 @@ pub Spells-next-item : {X : Type 0} {a b c : Speller} (text : X → Tokens) (par
     Spells a b (flat_map text (take i parts)) → Spells b c (text x) → Spells a c (flat_map text (take (i + 1) parts))
 Spells-next-item {X} {a} {b} {c} text parts i x within is before part =
     Spells-next text parts i x within before (subst (λ y. Spells b c (text y)) is part)
+
+-- `else` and a part
+pub else_behind : (part : Option Tokens) → else_part part ≡ behind WElse part
+else_behind None = refl
+else_behind (Some part) = refl
+
+-- `by` and a step
+pub by_behind : (part : Option Tokens) → by_part part ≡ behind WBy part
+by_behind None = refl
+by_behind (Some part) = refl

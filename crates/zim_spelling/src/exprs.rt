@@ -1,5 +1,5 @@
 ghost use Rattle.std.specs.Prelude.{map, option_map};
-ghost use Rattle.zim_spelling.specs.Speller.{Spells};
+ghost use Rattle.zim_spelling.specs.Speller.{Spells, behind};
 ghost use Rattle.zim_tree.specs.Spelling as spec;
 
 use crate::signs::{
@@ -63,7 +63,7 @@ pub(crate) fn spell_expr(tree: &Expr, to: &mut Speller)
             spell_expr(test.get(), to);
             to.put_word(Word::WThen);
             spell_expr(branch.get(), to);
-            spell_else(otherwise, to);
+            spell_behind(Word::WElse, otherwise, to);
             to.put_word(Word::WEnd);
         }
         Expr::Factorial(operand, places) => {
@@ -124,25 +124,14 @@ pub(crate) fn spell_expr(tree: &Expr, to: &mut Speller)
     }
 }
 
-/// Puts `else` and a part at the end, if there is one.
+/// Puts a word and a part at the end, if there is one.
 #[cycle(spell)]
-fn spell_else(otherwise: &Option<Boxed<Expr>>, to: &mut Speller)
-    ensures { Spells to.old to.new (spec.else_part (option_map spec.spelling otherwise.now)) }
+fn spell_behind(keyword: Word, part: &Option<Boxed<Expr>>, to: &mut Speller)
+    ensures { Spells to.old to.new (behind keyword (option_map spec.spelling part.now)) }
 {
-    if let Some(otherwise) = otherwise {
-        to.put_word(Word::WElse);
-        spell_expr(otherwise.get(), to);
-    }
-}
-
-/// Puts `by` and a step at the end, if there is one.
-#[cycle(spell)]
-fn spell_by(by: &Option<Boxed<Expr>>, to: &mut Speller)
-    ensures { Spells to.old to.new (spec.by_part (option_map spec.spelling by.now)) }
-{
-    if let Some(by) = by {
-        to.put_word(Word::WBy);
-        spell_expr(by.get(), to);
+    if let Some(part) = part {
+        to.put_word(keyword);
+        spell_expr(part.get(), to);
     }
 }
 
@@ -158,21 +147,6 @@ pub(crate) fn spell_exprs(trees: &[Expr], to: &mut Speller)
     for tree in others {
         to.put_sign(Sign::SComma);
         spell_expr(tree, to);
-    }
-}
-
-/// Puts the spellings of tuples at the end, with commas between them.
-#[cycle(spell)]
-fn spell_angles(trees: &[Angle], to: &mut Speller)
-    ensures { Spells to.old to.new (spec.with_commas (map spec.angle_spelling trees.now)) }
-{
-    let Some((first, others)) = trees.split_first() else {
-        return;
-    };
-    spell_angle(first, to);
-    for tree in others {
-        to.put_sign(Sign::SComma);
-        spell_angle(tree, to);
     }
 }
 
@@ -252,13 +226,21 @@ fn spell_body(body: &Body, to: &mut Speller)
     match body {
         Body::Empty => {}
         Body::Members(members) => spell_exprs(members.as_slice(), to),
-        Body::Tuples(tuples) => spell_angles(tuples.as_slice(), to),
+        Body::Tuples(tuples) => {
+            if let Some((first, others)) = tuples.as_slice().split_first() {
+                spell_angle(first, to);
+                for tuple in others {
+                    to.put_sign(Sign::SComma);
+                    spell_angle(tuple, to);
+                }
+            }
+        }
         Body::Those(index) => spell_index(index.get(), to),
         Body::Span(from, with_to, end, by) => {
             spell_expr(from.get(), to);
             put_dots_or_to(*with_to, to);
             spell_expr(end.get(), to);
-            spell_by(by, to);
+            spell_behind(Word::WBy, by, to);
         }
     }
 }

@@ -14,7 +14,7 @@ use Rattle.zim_tree.specs.Trees.{angle_of, index_of}
 use Rattle.zim_tree.specs.Classes.{word_class, sign_class}
 use Rattle.zim_tree.specs.Levels.{products, sums, is_function, is_loop}
 use Rattle.zim_tree.specs.Made.{Made, MadeAll, MadeOperands, MadeConjuncts, MadeDisjuncts, MadeTuple, MadeTuples, MadeIndex, MadeBody, made_number, made_text, made_truth, made_infinity, made_name, made_item, made_call, made_function, made_projection, made_parentheses, made_braces, made_if, made_if_with_else, made_factorial, made_power, made_signed, made_big, made_product, made_sum, made_comparison, made_double_comparison, made_member, made_not, made_and, made_or, made_forall, made_none, made_one, made_tuple, made_index, made_index_with, made_empty, made_members, made_tuples, made_choices, made_span, made_span_by}
-use Rattle.zim_tree.proofs.NodeLemmas.{node_of}
+use Rattle.zim_tree.proofs.NodeLaws.{node_of}
 
 -- a list has an item at least
 abbrev pub Filled : {A : Type 0} → List A → Type 0

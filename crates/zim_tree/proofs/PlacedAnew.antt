@@ -15,7 +15,7 @@ use Rattle.zim_tree.specs.Classes.{token_class, sign_class}
 use Rattle.zim_tree.specs.Levels.{Level, primary, postfix, power, Chain, level_of, operand_of, joins, Limits, Operands, placed, exclamations, exponent_sign}
 use Rattle.zim_tree.specs.Grammar.{Reads, ReadsOperands, ReadsList, ReadsTuple, ReadsTuples, ReadsIndex, ReadsBody, a_number, a_text, a_truth, an_infinity, a_name, an_item, a_bare_call, a_call, a_function, a_projection, in_parentheses, in_braces, an_if, an_if_with_else, a_postfix, no_power, a_power, no_sign, a_sign, a_big, no_loop_sign, a_loop_sign, a_product, a_loop, a_product_with_loop, a_chain, a_member, no_not, a_not, no_forall, a_forall, no_operand, an_operand, the_last, one_more, a_tuple, the_last_tuple, one_more_tuple, an_index, an_index_with, nothing, the_members, the_tuples, the_choices, a_span, a_span_by}
 use Rattle.zim_tree.specs.Plain.{nowhere}
-use Rattle.zim_tree.proofs.DerivationSpelling.{tokens}
+use Rattle.zim_tree.proofs.DerivationSpellingLaws.{tokens}
 
 -- the first of some places
 abbrev pub next_place : List Place → Place

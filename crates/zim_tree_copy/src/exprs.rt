@@ -36,13 +36,15 @@ pub fn copy_expr(alloc: Global, tree: &Expr) -> Result<Expr, Memory>
         Expr::Braces(place, body) => {
             Ok(Expr::Braces(*place, Boxed::new(alloc, copy_body(alloc, body.get())?)?))
         }
-        Expr::If(place, vif, test, then, otherwise) => Ok(Expr::If(
-            *place,
-            *vif,
-            copy_boxed(alloc, test)?,
-            copy_boxed(alloc, then)?,
-            copy_boxed_option(alloc, otherwise)?,
-        )),
+        Expr::If(place, vif, test, then, otherwise) => {
+            let otherwise = match otherwise {
+                None => None,
+                Some(tree) => Some(copy_boxed(alloc, tree)?),
+            };
+            let test = copy_boxed(alloc, test)?;
+            let then = copy_boxed(alloc, then)?;
+            Ok(Expr::If(*place, *vif, test, then, otherwise))
+        }
         Expr::Factorial(operand, marks) => Ok(Expr::Factorial(
             copy_boxed(alloc, operand)?,
             Items::from_slice(alloc, marks.as_slice())?,
@@ -103,20 +105,6 @@ pub(crate) fn copy_boxed(alloc: Global, tree: &Boxed<Expr>) -> Result<Boxed<Expr
     ensures { IfOk result (λ made. made ≡ tree.now) }
 {
     Ok(Boxed::new(alloc, copy_expr(alloc, tree.get())?)?)
-}
-
-/// An equal part, if there is one.
-#[cycle(copy)]
-fn copy_boxed_option(
-    alloc: Global,
-    tree: &Option<Boxed<Expr>>,
-) -> Result<Option<Boxed<Expr>>, Memory>
-    ensures { IfOk result (λ made. made ≡ tree.now) }
-{
-    match tree {
-        None => Ok(None),
-        Some(tree) => Ok(Some(Boxed::new(alloc, copy_expr(alloc, tree.get())?)?)),
-    }
 }
 
 /// Equal expressions.
@@ -199,18 +187,6 @@ pub fn copy_angle(alloc: Global, tuple: &Angle) -> Result<Angle, Memory>
     })
 }
 
-/// Equal tuples.
-#[cycle(copy)]
-fn copy_angles(alloc: Global, trees: &[Angle]) -> Result<Items<Angle>, Memory>
-    ensures { IfOk result (λ made. made ≡ trees.now) }
-{
-    let mut made = Items::new(alloc);
-    for tree in trees {
-        made.push(copy_angle(alloc, tree)?)?;
-    }
-    Ok(made)
-}
-
 /// An equal index.
 #[cycle(copy)]
 pub fn copy_index(alloc: Global, index: &Index) -> Result<Index, Memory>
@@ -246,15 +222,24 @@ pub fn copy_body(alloc: Global, body: &Body) -> Result<Body, Memory>
     match body {
         Body::Empty => Ok(Body::Empty),
         Body::Members(members) => Ok(Body::Members(copy_exprs(alloc, members.as_slice())?)),
-        Body::Tuples(tuples) => Ok(Body::Tuples(copy_angles(alloc, tuples.as_slice())?)),
+        Body::Tuples(tuples) => {
+            let mut made = Items::new(alloc);
+            for tuple in tuples.as_slice() {
+                made.push(copy_angle(alloc, tuple)?)?;
+            }
+            Ok(Body::Tuples(made))
+        }
         Body::Those(index) => {
             Ok(Body::Those(Boxed::new(alloc, copy_index(alloc, index.get())?)?))
         }
-        Body::Span(from, with_to, to, by) => Ok(Body::Span(
-            copy_boxed(alloc, from)?,
-            *with_to,
-            copy_boxed(alloc, to)?,
-            copy_boxed_option(alloc, by)?,
-        )),
+        Body::Span(from, with_to, to, by) => {
+            let by = match by {
+                None => None,
+                Some(tree) => Some(copy_boxed(alloc, tree)?),
+            };
+            let from = copy_boxed(alloc, from)?;
+            let to = copy_boxed(alloc, to)?;
+            Ok(Body::Span(from, *with_to, to, by))
+        }
     }
 }

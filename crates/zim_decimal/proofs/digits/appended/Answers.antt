@@ -1,6 +1,6 @@
 -- A power of ten above the limit, and one that fits.
 use Rattle.std.proofs.Common.{arith, ◌+◌}
-use Rattle.zim_decimal.proofs.DigitLemmas.{many_zeros, few_zeros}
+use Rattle.zim_decimal.proofs.DigitLaws.{many_zeros, few_zeros}
 use Rattle.zim_decimal.proofs.digits.appended.Goals as goal
 
 pub returns-then-zeros-ge38 : goal.returns-then-zeros-ge38

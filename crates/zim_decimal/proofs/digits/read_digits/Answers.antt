@@ -1,6 +1,6 @@
 -- Each digit is one more behind those that were read.
 use Rattle.std.proofs.Common.{arith, refl}
-use Rattle.zim_decimal.proofs.DigitLemmas.{nothing_counted, counted_next}
+use Rattle.zim_decimal.proofs.DigitLaws.{nothing_counted, counted_next}
 use Rattle.zim_decimal.proofs.digits.read_digits.Goals as goal
 
 pub loop-digit-init : goal.loop-digit-init

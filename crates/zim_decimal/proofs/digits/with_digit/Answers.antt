@@ -1,5 +1,5 @@
 -- A zero is counted, and another digit ends the zeros.
-use Rattle.zim_decimal.proofs.DigitLemmas.{counted_zero, counted_some, counted_none}
+use Rattle.zim_decimal.proofs.DigitLaws.{counted_zero, counted_some, counted_none}
 use Rattle.zim_decimal.proofs.digits.with_digit.Goals as goal
 
 pub returns-then-digit-eq48-clause-counted : goal.returns-then-digit-eq48-clause-counted

@@ -1,5 +1,5 @@
 -- One byte more is left out.
-use Rattle.zim_decimal.proofs.TokenLemmas.{after_some}
+use Rattle.zim_decimal.proofs.TokenLaws.{after_some}
 use Rattle.zim_decimal.proofs.literal.after.Goals as goal
 
 pub returns-else-at-text : goal.returns-else-at-text

@@ -1,6 +1,6 @@
 -- One digit more, and no more than the cap.
 use Rattle.std.proofs.Common.{refl, ◌∙◌}
-use Rattle.zim_decimal.proofs.TokenLemmas.{digit_at}
+use Rattle.zim_decimal.proofs.TokenLaws.{digit_at}
 use Rattle.zim_decimal.proofs.LiteralLemmas.{capped_next}
 use Rattle.zim_decimal.proofs.literal.capped_value.Goals as goal
 

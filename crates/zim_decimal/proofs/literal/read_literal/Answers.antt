@@ -1,7 +1,7 @@
 -- The parts of the token are cut where the definition cuts them.
 use Rattle.std.proofs.Common.{take, arith}
 use Rattle.zim_decimal.specs.Token.{is_point}
-use Rattle.zim_decimal.proofs.TokenLemmas.{place_bound, whole_are_digits, behind_are_digits, exponent_are_digits}
+use Rattle.zim_decimal.proofs.TokenLaws.{place_bound, whole_are_digits, behind_are_digits, exponent_are_digits}
 use Rattle.zim_decimal.proofs.LiteralLemmas.{literal_some, literal_none}
 use Rattle.zim_decimal.proofs.literal.read_literal.Goals as goal
 

@@ -2,7 +2,7 @@
 use Rattle.std.proofs.Common.{ℤ, ◌≤◌, unsigned_abs, ap, subst, ◌∙◌}
 use Rattle.zim_fraction.specs.Limit.{limit}
 use Rattle.zim_decimal.specs.Reading.{number_of_text}
-use Rattle.zim_decimal.proofs.ValueLemmas.{short_text_reads}
+use Rattle.zim_decimal.proofs.ValueLaws.{short_text_reads}
 use Rattle.zim_decimal.proofs.ShortLemmas.{short_divides, text_read}
 use Rattle.zim_decimal.proofs.text.write_short.Goals as goal
 

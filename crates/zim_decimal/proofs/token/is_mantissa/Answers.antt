@@ -1,5 +1,5 @@
 -- The parts are cut at the first point.
-use Rattle.zim_decimal.proofs.TokenLemmas.{mantissa_whole, mantissa_parts, mantissa_other}
+use Rattle.zim_decimal.proofs.TokenLaws.{mantissa_whole, mantissa_parts, mantissa_other}
 use Rattle.zim_decimal.proofs.token.is_mantissa.Goals as goal
 
 pub returns-then-point-text : goal.returns-then-point-text

@@ -1,5 +1,5 @@
 -- The parts are cut at the first mark of an exponent.
-use Rattle.zim_decimal.proofs.TokenLemmas.{number_parts, number_other}
+use Rattle.zim_decimal.proofs.TokenLaws.{number_parts, number_other}
 use Rattle.zim_decimal.proofs.token.is_number.Goals as goal
 
 pub returns-then-is_mantissa : goal.returns-then-is_mantissa

@@ -1,6 +1,6 @@
 -- The first place is that of the byte that was found, or the length.
 use Rattle.zim_decimal.specs.Token.{is_mark}
-use Rattle.zim_decimal.proofs.TokenLemmas.{found_at, found_none}
+use Rattle.zim_decimal.proofs.TokenLaws.{found_at, found_none}
 use Rattle.zim_decimal.proofs.token.mark_at.Goals as goal
 
 pub returns-in-Some : goal.returns-in-Some

@@ -1,5 +1,5 @@
 -- Over one denominator the numerators decide, else the signs, else the products across.
-use Rattle.zim_fraction.proofs.PartLemmas.{wrapped}
+use Rattle.zim_fraction.proofs.PartLaws.{wrapped}
 use Rattle.zim_fraction.proofs.OrderLemmas.{over_one_denom, first_below, first_above, both_above, both_below}
 use Rattle.zim_fraction.proofs.order.compare.Goals as goal
 

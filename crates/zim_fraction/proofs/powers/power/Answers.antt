@@ -4,7 +4,7 @@ use Rattle.std.specs.Int.{w128}
 use Rattle.std.proofs.lemmas.Int.{to_z-of_z}
 use Rattle.zim_rational.specs.Rounding.{product_of}
 use Rattle.zim_fraction.specs.Answers.{number_answer}
-use Rattle.zim_fraction.proofs.AnswerLemmas.{zero_from_parts, some_from_parts}
+use Rattle.zim_fraction.proofs.AnswerLaws.{zero_from_parts, some_from_parts}
 use Rattle.zim_fraction.proofs.PowerLemmas.{number_if_ok, power_up, power_down, power_answer_up, power_answer_some, power_answer_none}
 use Rattle.zim_fraction.proofs.powers.power.Goals as goal
 

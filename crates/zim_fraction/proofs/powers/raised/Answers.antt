@@ -2,8 +2,8 @@
 use Rattle.std.proofs.Common.{ℕ, ◌≤◌, sym, subst}
 use Rattle.zim_fraction.specs.Limit.{limit}
 use Rattle.zim_rational.proofs.Parts.{lowest_from}
-use Rattle.zim_fraction.proofs.PartLemmas.{wrapped, raised_has}
-use Rattle.zim_fraction.proofs.AnswerLemmas.{number_ok, number_past, number_size_false, number_denom_false}
+use Rattle.zim_fraction.proofs.PartLaws.{wrapped, raised_has}
+use Rattle.zim_fraction.proofs.AnswerLaws.{number_ok, number_past, number_size_false, number_denom_false}
 use Rattle.std.proofs.Common.{refl}
 use Rattle.zim_fraction.proofs.powers.raised.Goals as goal
 

@@ -2,7 +2,7 @@
 use Rattle.std.proofs.Common.{◌≡◌, Ok, Err, subst, ap, ◌∙◌}
 use Rattle.zim_rational.specs.Rational.{Rational, times, over}
 use Rattle.zim_fraction.specs.Answers.{product_answer}
-use Rattle.zim_fraction.proofs.AnswerLemmas.{zero_from_parts, some_from_parts, quotient_answer_none, quotient_ok, quotient_past}
+use Rattle.zim_fraction.proofs.AnswerLaws.{zero_from_parts, some_from_parts, quotient_answer_none, quotient_ok, quotient_past}
 use Rattle.zim_fraction.proofs.product.div.Goals as goal
 
 pub returns-then-numer-eq0-clause-answer : goal.returns-then-numer-eq0-clause-answer

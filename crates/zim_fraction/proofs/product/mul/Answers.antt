@@ -2,8 +2,8 @@
 use Rattle.std.proofs.Common.{ℕ, ◌≤◌, ◌∙◌, refl, sym, subst}
 use Rattle.zim_fraction.specs.Limit.{limit}
 use Rattle.zim_rational.proofs.Parts.{lowest_from, ratio_from}
-use Rattle.zim_fraction.proofs.PartLemmas.{wrapped, times_has}
-use Rattle.zim_fraction.proofs.AnswerLemmas.{product_ok, product_past, product_whole, number_size_false, number_denom_false}
+use Rattle.zim_fraction.proofs.PartLaws.{wrapped, times_has}
+use Rattle.zim_fraction.proofs.AnswerLaws.{product_ok, product_past, product_whole, number_size_false, number_denom_false}
 use Rattle.zim_fraction.proofs.product.mul.Goals as goal
 
 pub returns-in-Some-clause-answer : goal.returns-in-Some-clause-answer

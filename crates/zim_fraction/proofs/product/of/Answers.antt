@@ -3,8 +3,8 @@ use Rattle.std.proofs.Common.{◌∙◌}
 use Rattle.std.specs.Int.{w128}
 use Rattle.std.proofs.lemmas.Int.{to_z-of_z}
 use Rattle.zim_rational.proofs.Parts.{lowest_from, ratio_from}
-use Rattle.zim_fraction.proofs.PartLemmas.{over_has}
-use Rattle.zim_fraction.proofs.AnswerLemmas.{zero_from_bits, some_from_bits, ratio_answer_none, ratio_answer_some, number_ok, number_past, number_size_false, number_denom_false}
+use Rattle.zim_fraction.proofs.PartLaws.{over_has}
+use Rattle.zim_fraction.proofs.AnswerLaws.{zero_from_bits, some_from_bits, ratio_answer_none, ratio_answer_some, number_ok, number_past, number_size_false, number_denom_false}
 use Rattle.zim_fraction.proofs.product.of.Goals as goal
 use Rattle.zim_fraction.proofs.product.of.Goals.{else-p-g-le-LIMIT-via-then-p-g-le-LIMIT+else-r-g-le-LIMIT, else-p-g-le-LIMIT-via-else-p-g-le-LIMIT}
 use native.Mathlib.Nat.{not-le_of_lt}

@@ -1,7 +1,7 @@
 -- The size and the denominator change places.
 use Rattle.std.proofs.Common.{◌∙◌}
 use Rattle.zim_rational.proofs.Parts.{lowest_from, ratio_from}
-use Rattle.zim_fraction.proofs.PartLemmas.{wrapped, reciprocal_has}
+use Rattle.zim_fraction.proofs.PartLaws.{wrapped, reciprocal_has}
 use Rattle.zim_fraction.proofs.product.reciprocal.Goals as goal
 
 pub of_lowest-requires-clause-lowest : goal.of_lowest-requires-clause-lowest

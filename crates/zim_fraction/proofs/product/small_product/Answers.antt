@@ -1,7 +1,7 @@
 -- The product of two numbers below 2^63 fits, and is the product of the fractions.
 use Rattle.std.proofs.Common.{refl, to_z, of_z}
 use Rattle.std.specs.Int.{w128}
-use Rattle.zim_fraction.proofs.PartLemmas.{wrapped}
+use Rattle.zim_fraction.proofs.PartLaws.{wrapped}
 use Rattle.zim_fraction.proofs.WholeLemmas.{product_fits, product_bound, product_is}
 use Rattle.zim_fraction.proofs.product.small_product.Goals as goal
 

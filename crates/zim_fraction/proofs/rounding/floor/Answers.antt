@@ -3,7 +3,7 @@ use Rattle.std.proofs.Common.{SFits}
 use Rattle.std.proofs.Common.{rules}
 use Rattle.std.specs.Int.{w128}
 use Rattle.std.proofs.lemmas.Int.{to_z-of_z}
-use Rattle.zim_fraction.proofs.PartLemmas.{wrapped}
+use Rattle.zim_fraction.proofs.PartLaws.{wrapped}
 use Rattle.zim_fraction.proofs.RoundingLemmas.{floor_is, signed_denom}
 use Rattle.zim_fraction.proofs.rounding.floor.Goals as goal
 

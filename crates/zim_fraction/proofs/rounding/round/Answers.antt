@@ -3,7 +3,7 @@ use Rattle.std.proofs.Common.{SFits, rules, ℕ, subst, sym}
 use Rattle.std.specs.Int.{w128}
 use Rattle.std.proofs.lemmas.Int.{to_z-of_z}
 use Rattle.zim_rational.proofs.Rounding.{IsNearest, nearest_next, nearest_quotient}
-use Rattle.zim_fraction.proofs.PartLemmas.{wrapped}
+use Rattle.zim_fraction.proofs.PartLaws.{wrapped}
 use Rattle.zim_fraction.proofs.RoundingLemmas.{round_is}
 use Rattle.zim_fraction.proofs.rounding.round.Goals as goal
 use Rattle.zim_fraction.proofs.rounding.round.Goals.{then-d-rest, else-d-rest}

@@ -1,8 +1,8 @@
 -- The sum is past where a part of the calculation over the common denominator is, else it is the sum of the fractions.
 use Rattle.std.proofs.Common.{◌∙◌, ap, refl}
 use Rattle.zim_rational.specs.Rational.{whole}
-use Rattle.zim_fraction.proofs.PartLemmas.{wrapped}
-use Rattle.zim_fraction.proofs.SumLemmas.{sum_ok, sum_past, pair_sum, pair_bounds}
+use Rattle.zim_fraction.proofs.PartLaws.{wrapped}
+use Rattle.zim_fraction.proofs.SumLaws.{sum_ok, sum_past, pair_sum, pair_bounds}
 use Rattle.zim_fraction.proofs.sum.add.Goals as goal
 
 pub returns-in-Some-clause-answer : goal.returns-in-Some-clause-answer

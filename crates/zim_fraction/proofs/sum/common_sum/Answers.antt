@@ -1,8 +1,8 @@
 -- Each part that passes the limit makes the sum past, and where none does the numerators over the common denominator add up.
 use Rattle.std.proofs.Common.{ℕ, ◌≤◌, subst, sym}
 use Rattle.zim_fraction.specs.Limit.{limit}
-use Rattle.zim_fraction.proofs.PartLemmas.{wrapped, carried, carried_bound}
-use Rattle.zim_fraction.proofs.SumLemmas.{denom_past, first_past, second_past, total_past, over_common, sum_is_within, sum_pair}
+use Rattle.zim_fraction.proofs.PartLaws.{wrapped, carried, carried_bound}
+use Rattle.zim_fraction.proofs.SumLaws.{denom_past, first_past, second_past, total_past, over_common, sum_is_within, sum_pair}
 use Rattle.zim_fraction.proofs.sum.common_sum.Goals as goal
 
 pub returns-in_err-m : goal.returns-in_err-m

@@ -1,7 +1,7 @@
 -- The sign changes, the lowest terms stay.
 use Rattle.std.proofs.Common.{◌∙◌}
 use Rattle.zim_rational.proofs.Parts.{ratio_from}
-use Rattle.zim_fraction.proofs.PartLemmas.{wrapped, negated_has}
+use Rattle.zim_fraction.proofs.PartLaws.{wrapped, negated_has}
 use Rattle.zim_fraction.proofs.sum.negated.Goals as goal
 
 pub returns : goal.returns

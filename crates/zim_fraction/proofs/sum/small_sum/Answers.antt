@@ -1,9 +1,9 @@
 -- The sum of two numbers below 2^63 fits, is the sum of the fractions, and none of its parts passes the limit.
 use Rattle.std.proofs.Common.{refl, to_z, of_z}
 use Rattle.std.specs.Int.{w128}
-use Rattle.zim_fraction.proofs.PartLemmas.{wrapped}
+use Rattle.zim_fraction.proofs.PartLaws.{wrapped}
 use Rattle.zim_fraction.proofs.WholeLemmas.{sum_is}
-use Rattle.zim_fraction.proofs.SumLemmas.{small_sum_within}
+use Rattle.zim_fraction.proofs.SumLaws.{small_sum_within}
 use Rattle.zim_fraction.proofs.sum.small_sum.Goals as goal
 
 pub returns-then-is_small-2-clause-value : goal.returns-then-is_small-2-clause-value

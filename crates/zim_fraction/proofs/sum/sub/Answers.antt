@@ -2,7 +2,7 @@
 use Rattle.std.proofs.Common.{◌≡◌, ap, subst, IfOk, ◌∙◌}
 use Rattle.zim_rational.specs.Rational.{Rational, plus, minus}
 use Rattle.zim_fraction.specs.Answers.{sum_answer}
-use Rattle.zim_fraction.proofs.SumLemmas.{difference_is}
+use Rattle.zim_fraction.proofs.SumLaws.{difference_is}
 use Rattle.zim_fraction.proofs.sum.sub.Goals as goal
 
 pub returns-clause-answer : goal.returns-clause-answer

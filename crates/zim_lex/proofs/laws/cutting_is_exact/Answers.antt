@@ -1,4 +1,4 @@
-use Rattle.zim_lex.proofs.CutLemmas.{cut_is, is_cut, one_cut, cut_fails, is_stuck}
+use Rattle.zim_lex.proofs.CutLaws.{cut_is, is_cut, one_cut, cut_fails, is_stuck}
 use Rattle.zim_lex.proofs.laws.cutting_is_exact.Goals as goal
 
 pub returns-clause-one : goal.returns-clause-one

@@ -1,4 +1,4 @@
-use Rattle.zim_linear.proofs.FormLemmas.{none_from_length}
+use Rattle.zim_linear.proofs.FormLaws.{none_from_length}
 use Rattle.zim_linear.proofs.EndLemmas.{end_none, add_start, add_none, add_product_past, add_sum_past, add_step, add_end}
 use Rattle.zim_linear.proofs.ends.end.Goals as goal
 

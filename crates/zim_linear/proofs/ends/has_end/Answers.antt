@@ -1,4 +1,4 @@
-use Rattle.zim_linear.proofs.FormLemmas.{none_from_length}
+use Rattle.zim_linear.proofs.FormLaws.{none_from_length}
 use Rattle.zim_linear.proofs.EndLemmas.{seek_none, seek_some, seek_end}
 use Rattle.zim_linear.proofs.ends.has_end.Goals as goal
 

@@ -1,5 +1,5 @@
 use Rattle.std.proofs.Common.{true, false}
-use Rattle.zim_fraction.proofs.PartLemmas.{wrapped}
+use Rattle.zim_fraction.proofs.PartLaws.{wrapped}
 use Rattle.zim_linear.specs.Ends.{counted}
 use Rattle.zim_linear.specs.declared.sides.End.TheVariants.{Least, Greatest}
 use Rattle.zim_linear.proofs.SideLemmas.{turned_is, side_is}

@@ -1,6 +1,6 @@
 use Rattle.std.proofs.Common.{rules}
 use Rattle.zim_linear.proofs.IntegerLemmas.{common_is_least}
-use Rattle.zim_linear.proofs.WholeFormLemmas.{whole_answer}
+use Rattle.zim_linear.proofs.WholeFormLaws.{whole_answer}
 use Rattle.zim_linear.proofs.integers.integer_form.Goals as goal
 
 pub returns-in-Err-clause-least : goal.returns-in-Err-clause-least

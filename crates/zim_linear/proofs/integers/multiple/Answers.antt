@@ -1,9 +1,9 @@
 use Rattle.std.proofs.Common.{ℤ, pos, ◌≡◌, ◌≤◌, unsigned_abs, to_z, refl, subst}
 use Rattle.std.specs.Int.{w128}
 use Rattle.zim_fraction.specs.Limit.{limit}
-use Rattle.zim_fraction.proofs.PartLemmas.{wrapped, carried}
+use Rattle.zim_fraction.proofs.PartLaws.{wrapped, carried}
 use Rattle.zim_linear.specs.Integers.{multiple_from}
-use Rattle.zim_linear.proofs.FormLemmas.{none_from_length}
+use Rattle.zim_linear.proofs.FormLaws.{none_from_length}
 use Rattle.zim_linear.proofs.IntegerLemmas.{multiple_step, multiple_past, multiple_end, wrapped_multiple}
 use Rattle.zim_linear.proofs.integers.multiple.Goals as goal
 

@@ -2,7 +2,7 @@ use Rattle.std.proofs.Common.{◌≡◌, refl, ap, sym, ◌∙◌, [], ◌∷◌
 use Rattle.std.proofs.lemmas.Bool.{both_ways}
 use Rattle.zim_rational.specs.Rational.{Rational, zero, times, same}
 use Rattle.zim_rational.proofs.Whole.{same_Decides}
-use Rattle.zim_linear.proofs.AnswerLemmas.{product_ok, product_past}
+use Rattle.zim_linear.proofs.AnswerLaws.{product_ok, product_past}
 use Rattle.zim_linear.proofs.multiple.push_product.Goals as goal
 
 pub returns-in-Err : goal.returns-in-Err

@@ -1,4 +1,4 @@
-use Rattle.zim_linear.proofs.ScaleLemmas.{scaled_answer, scaled_past}
+use Rattle.zim_linear.proofs.ScaleLaws.{scaled_answer, scaled_past}
 use Rattle.zim_linear.proofs.multiple.scale.Goals as goal
 
 pub returns-in-Ok : goal.returns-in-Ok

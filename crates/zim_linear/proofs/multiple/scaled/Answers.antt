@@ -1,5 +1,5 @@
-use Rattle.zim_linear.proofs.FormLemmas.{none_from_length}
-use Rattle.zim_linear.proofs.ScaleLemmas.{scale_start, scale_step, scale_end}
+use Rattle.zim_linear.proofs.FormLaws.{none_from_length}
+use Rattle.zim_linear.proofs.ScaleLaws.{scale_start, scale_step, scale_end}
 use Rattle.zim_linear.proofs.multiple.scaled.Goals as goal
 
 pub loop-t-init : goal.loop-t-init

@@ -1,5 +1,5 @@
 use Rattle.std.proofs.Common.{length}
-use Rattle.zim_linear.proofs.ScaleLemmas.{IsScaling}
+use Rattle.zim_linear.proofs.ScaleLaws.{IsScaling}
 use Rattle.zim_linear.proofs.multiple.scaled.Given as goal
 
 abbrev pub invariant-loop-t : goal.invariant-loop-t

@@ -1,5 +1,5 @@
 use Rattle.std.proofs.Common.{◌≡◌, arith}
-use Rattle.zim_linear.proofs.FormLemmas.{none_from_length}
+use Rattle.zim_linear.proofs.FormLaws.{none_from_length}
 use Rattle.zim_linear.proofs.MergeLemmas.{start, left_step, right_step, both_step, left_end, right_end}
 use Rattle.zim_linear.proofs.sum.merge.Goals as goal
 use Rattle.zim_linear.proofs.sum.merge.Goals.{in_default, in_default-2}

@@ -2,7 +2,7 @@ use Rattle.std.proofs.Common.{subst, sym, ap, ap₂, ◌∙◌}
 use Rattle.zim_linear.specs.Forms.{AreTerms, form_of}
 use Rattle.zim_linear.specs.Sums.{negated_terms}
 use Rattle.zim_rational.specs.Rational.{negate}
-use Rattle.zim_linear.proofs.NegationLemmas.{negated_from}
+use Rattle.zim_linear.proofs.NegationLaws.{negated_from}
 use Rattle.zim_linear.proofs.sum.negated.Goals as goal
 
 pub of_terms-requires : goal.of_terms-requires

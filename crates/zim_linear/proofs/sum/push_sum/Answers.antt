@@ -2,7 +2,7 @@ use Rattle.std.proofs.Common.{◌≡◌, refl, ap, sym, ◌∙◌, [], ◌∷◌
 use Rattle.std.proofs.lemmas.Bool.{both_ways}
 use Rattle.zim_rational.specs.Rational.{Rational, zero, plus, same}
 use Rattle.zim_rational.proofs.Whole.{same_Decides}
-use Rattle.zim_linear.proofs.AnswerLemmas.{sum_ok, sum_past}
+use Rattle.zim_linear.proofs.AnswerLaws.{sum_ok, sum_past}
 use Rattle.zim_linear.proofs.sum.push_sum.Goals as goal
 
 pub returns-in-Err : goal.returns-in-Err

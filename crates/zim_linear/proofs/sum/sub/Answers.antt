@@ -1,4 +1,4 @@
-use Rattle.zim_linear.proofs.NegationLemmas.{difference_answer}
+use Rattle.zim_linear.proofs.NegationLaws.{difference_answer}
 use Rattle.zim_linear.proofs.sum.sub.Goals as goal
 
 pub returns : goal.returns

@@ -1,5 +1,9 @@
-use Rattle.zim_parse.proofs.OneAnswer.{accepted_as_one, accepted_is_not_refused, refused_with_one, fault_is_at_token}
+-- A statement or a fault, each once.
+use Rattle.zim_parse.proofs.AnswerLaws.{has_answer, accepted_as_one, accepted_is_not_refused, refused_with_one, fault_is_at_token}
 use Rattle.zim_parse.proofs.law.answers_are_unique.Goals as goal
+
+pub returns-clause-some : goal.returns-clause-some
+returns-clause-some c = has_answer
 
 pub returns-clause-statement : goal.returns-clause-statement
 returns-clause-statement c = accepted_as_one

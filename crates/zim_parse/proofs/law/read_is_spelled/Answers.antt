@@ -1,4 +1,4 @@
-use Rattle.zim_parse.proofs.Meaning.{read_is_spelled, spelled_is_read}
+use Rattle.zim_parse.proofs.MeaningLaws.{read_is_spelled, spelled_is_read}
 use Rattle.zim_parse.proofs.law.read_is_spelled.Goals as goal
 
 pub returns-clause-spelled : goal.returns-clause-spelled

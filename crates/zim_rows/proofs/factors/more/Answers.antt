@@ -1,7 +1,7 @@
 use Rattle.std.proofs.Common.{pos, arith}
 use Rattle.std.specs.Int.{w128}
 use Rattle.std.proofs.lemmas.Int.{to_z_pos}
-use Rattle.zim_fraction.proofs.PartLemmas.{carried}
+use Rattle.zim_fraction.proofs.PartLaws.{carried}
 use Rattle.zim_rows.proofs.FactorLemmas.{more_made, more_past, more_back}
 use Rattle.zim_rows.proofs.factors.more.Goals as goal
 

@@ -1,7 +1,7 @@
 -- The factor grows by each denominator, and is that of all coefficients in the end.
 use Rattle.std.proofs.Common.{ap}
 use Rattle.zim_rows.specs.Factors.{coefficients}
-use Rattle.zim_linear.proofs.FormLemmas.{none_from_length}
+use Rattle.zim_linear.proofs.FormLaws.{none_from_length}
 use Rattle.zim_rows.proofs.FactorLemmas.{factor_start, factor_step, factor_past, factor_end}
 use Rattle.zim_rows.proofs.factors.terms_factor.Goals as goal
 

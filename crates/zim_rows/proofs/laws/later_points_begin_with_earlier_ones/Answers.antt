@@ -1,4 +1,4 @@
-use Rattle.zim_rows.proofs.CutLemmas.{point_cut, objective_of_cut}
+use Rattle.zim_rows.proofs.CutLaws.{point_cut, objective_of_cut}
 use Rattle.zim_rows.proofs.laws.later_points_begin_with_earlier_ones.Goals as goal
 
 pub returns-clause-points : goal.returns-clause-points

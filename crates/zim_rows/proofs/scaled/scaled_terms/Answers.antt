@@ -1,5 +1,5 @@
 -- The made terms grow by each scaled one.
-use Rattle.zim_linear.proofs.FormLemmas.{none_from_length}
+use Rattle.zim_linear.proofs.FormLaws.{none_from_length}
 use Rattle.zim_rows.proofs.ScaledLemmas.{terms_start, terms_step, terms_past, terms_end}
 use Rattle.zim_rows.proofs.scaled.scaled_terms.Goals as goal
 

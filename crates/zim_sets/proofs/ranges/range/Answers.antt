@@ -1,7 +1,7 @@
 use Rattle.std.proofs.Common.{◌≤◌, ◌<◌, arith, FitsSigned}
 use Rattle.std.specs.Int.{w128}
 use Rattle.std.proofs.lemmas.Int.{to_z-of_z}
-use Rattle.zim_fraction.proofs.AnswerLemmas.{zero_from_bits}
+use Rattle.zim_fraction.proofs.AnswerLaws.{zero_from_bits}
 use Rattle.zim_sets.proofs.RangeLaws.{range_few, range_many, range_stands, ranged_set, some_from_bits}
 use Rattle.zim_sets.specs.Ranges.{range_count}
 use Rattle.zim_sets.specs.Sets.{most}

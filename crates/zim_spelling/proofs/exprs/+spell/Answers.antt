@@ -8,7 +8,7 @@ use Rattle.zim_fault.specs.declared.signs.Sign.TheVariants.{SComma}
 use Rattle.zim_fault.specs.declared.words.Word.TheVariants.{WAnd, WOr, WXor}
 use Rattle.zim_tree.specs.declared.expr.Expr.{Expr}
 use Rattle.zim_tree.specs.Spelling.{Tokens, a_word, a_sign, relation_sign, spelling, angle_spelling}
-use Rattle.zim_spelling.proofs.SpellerLaws.{◌▸◌, given, Spells-nothing, Spells-next-map}
+use Rattle.zim_spelling.proofs.SpellerLaws.{◌▸◌, given, Spells-nothing, Spells-next-map, else_behind, by_behind}
 use Rattle.zim_tree.proofs.SpellingLaws.{spelling-Item, spelling-Call, spelling-Func, spelling-Proj, spelling-Paren, spelling-Braces, spelling-If, spelling-Factorial, spelling-Power, spelling-Signed, spelling-Big, spelling-Times, spelling-Plus, spelling-Compare, spelling-Member, spelling-Not, spelling-And, spelling-Or, spelling-Forall, spelling-Span}
 use Rattle.zim_spelling.proofs.exprs.+spell.Goals as goal
 
@@ -38,7 +38,7 @@ spell_expr-returns-in-Braces t c =
 
 pub spell_expr-returns-in-If : goal.spell_expr-returns-in-If
 spell_expr-returns-in-If t c =
-    given (c.put_one_word-in-If.ensures ▸ c.spell_expr-in-If.ensures ▸ c.put_word-in-If.ensures ▸ c.spell_expr-in-If-2.ensures ▸ c.spell_else.ensures ▸ c.put_word-in-If-2.ensures) (simp (c.get-in-If.ensures, c.get-in-If-2.ensures, c.in-If.is, spelling-If))
+    given (c.put_one_word-in-If.ensures ▸ c.spell_expr-in-If.ensures ▸ c.put_word-in-If.ensures ▸ c.spell_expr-in-If-2.ensures ▸ c.spell_behind.ensures ▸ c.put_word-in-If-2.ensures) (simp (c.get-in-If.ensures, c.get-in-If-2.ensures, c.in-If.is, spelling-If, else_behind))
 
 pub spell_expr-returns-in-Factorial : goal.spell_expr-returns-in-Factorial
 spell_expr-returns-in-Factorial t c =
@@ -90,7 +90,7 @@ spell_expr-returns-in-Forall t c =
 
 pub spell_body-returns-in-Span : goal.spell_body-returns-in-Span
 spell_body-returns-in-Span t c =
-    given (c.spell_expr.ensures ▸ c.put_dots_or_to.ensures ▸ c.spell_expr-in-Span.ensures ▸ c.spell_by.ensures) (simp (c.get-in-Span.ensures, c.get-in-Span-2.ensures, c.in-Span.is, spelling-Span))
+    given (c.spell_expr.ensures ▸ c.put_dots_or_to.ensures ▸ c.spell_expr-in-Span.ensures ▸ c.spell_behind.ensures) (simp (c.get-in-Span.ensures, c.get-in-Span-2.ensures, c.in-Span.is, spelling-Span, by_behind))
 
 pub spell_exprs-loop-tree-init : goal.spell_exprs-loop-tree-init
 spell_exprs-loop-tree-init t c = Spells-nothing _
@@ -99,12 +99,12 @@ pub spell_exprs-loop-tree-preserved : goal.spell_exprs-loop-tree-preserved
 spell_exprs-loop-tree-preserved t c =
     Spells-next-map (λ (part : Tokens). a_sign SComma ++ part) spelling c.in-Some.others.now c.loop-tree.tree-index c.tree-item.result c.loop-tree-test.true c.tree-item.is c.loop-tree.invariant (c.put_sign.ensures ▸ c.spell_expr-in-loop-tree.ensures)
 
-pub spell_angles-loop-tree-init : goal.spell_angles-loop-tree-init
-spell_angles-loop-tree-init t c = Spells-nothing _
+pub spell_body-loop-tuple-init : goal.spell_body-loop-tuple-init
+spell_body-loop-tuple-init t c = Spells-nothing _
 
-pub spell_angles-loop-tree-preserved : goal.spell_angles-loop-tree-preserved
-spell_angles-loop-tree-preserved t c =
-    Spells-next-map (λ (part : Tokens). a_sign SComma ++ part) angle_spelling c.in-Some.others.now c.loop-tree.tree-index c.tree-item.result c.loop-tree-test.true c.tree-item.is c.loop-tree.invariant (c.put_sign.ensures ▸ c.spell_angle-in-loop-tree.ensures)
+pub spell_body-loop-tuple-preserved : goal.spell_body-loop-tuple-preserved
+spell_body-loop-tuple-preserved t c =
+    Spells-next-map (λ (part : Tokens). a_sign SComma ++ part) angle_spelling c.in-Some.others.now c.loop-tuple.tuple-index c.tuple-item.result c.loop-tuple-test.true c.tuple-item.is c.loop-tuple.invariant (c.put_sign.ensures ▸ c.spell_angle-in-loop-tuple.ensures)
 
 pub spell_operations-loop-place-init : goal.spell_operations-loop-place-init
 spell_operations-loop-place-init t c = Spells-nothing _

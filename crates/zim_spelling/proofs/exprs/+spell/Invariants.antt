@@ -7,8 +7,8 @@ use Rattle.zim_spelling.proofs.exprs.+spell.Given as goal
 abbrev pub invariant-spell_exprs-loop-tree : goal.invariant-spell_exprs-loop-tree
 invariant-spell_exprs-loop-tree l = Spells l.initial.to l.to (spec.after_commas (map spec.spelling (take l.tree-index l.others)))
 
-abbrev pub invariant-spell_angles-loop-tree : goal.invariant-spell_angles-loop-tree
-invariant-spell_angles-loop-tree l = Spells l.initial.to l.to (spec.after_commas (map spec.angle_spelling (take l.tree-index l.others)))
+abbrev pub invariant-spell_body-loop-tuple : goal.invariant-spell_body-loop-tuple
+invariant-spell_body-loop-tuple l = Spells l.initial.to l.to (spec.after_commas (map spec.angle_spelling (take l.tuple-index l.others)))
 
 abbrev pub invariant-spell_operations-loop-place : goal.invariant-spell_operations-loop-place
 invariant-spell_operations-loop-place l = Spells l.initial.to l.to (spec.operations_of (take l._place-index l.others))

@@ -3,7 +3,7 @@ use Rattle.std.specs.Int.{w128}
 use Rattle.std.proofs.Common.{◌∙◌}
 use Rattle.std.proofs.lemmas.Int.{to_z-of_z}
 use Rattle.zim_rational.proofs.Parts.{lowest_from, ratio_from}
-use Rattle.zim_fraction.proofs.PartLemmas.{reduced_has}
+use Rattle.zim_fraction.proofs.PartLaws.{reduced_has}
 use Rattle.zim_fraction.proofs.fraction.Fraction.reduced.Goals as goal
 
 pub of_lowest-requires-clause-lowest : goal.of_lowest-requires-clause-lowest
