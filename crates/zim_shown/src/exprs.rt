@@ -34,7 +34,7 @@ fn show_token(token: &Token, place: Place, to: &mut Shown) {
 }
 
 /// Puts `do` or `:` between blanks at the end.
-pub fn show_separator(with_do: bool, to: &mut Shown) {
+pub(crate) fn show_separator(with_do: bool, to: &mut Shown) {
     to.put_one(with_do, b" : ", b" do ");
 }
 
@@ -86,7 +86,7 @@ fn put_bracket(tree: &Expr, bracket: &[u8], to: &mut Shown) {
 
 /// Puts an expression at the end.
 #[cycle(show)]
-pub fn show(tree: &Expr, to: &mut Shown) {
+pub(crate) fn show(tree: &Expr, to: &mut Shown) {
     put_bracket(tree, b"(", to);
     match tree {
         Expr::Number(place, digits) => to.put_at(digits.as_slice(), *place),
@@ -255,7 +255,7 @@ fn show_disjuncts(others: &[(Place, bool, Expr)], to: &mut Shown) {
 
 /// Puts expressions with blanks between them at the end.
 #[cycle(show)]
-pub fn show_list(trees: &[Expr], to: &mut Shown) {
+pub(crate) fn show_list(trees: &[Expr], to: &mut Shown) {
     let Some((first, others)) = trees.split_first() else {
         return;
     };
@@ -268,7 +268,7 @@ pub fn show_list(trees: &[Expr], to: &mut Shown) {
 
 /// Puts a tuple at the end.
 #[cycle(show)]
-pub fn show_tuple(tuple: &Angle, to: &mut Shown) {
+pub(crate) fn show_tuple(tuple: &Angle, to: &mut Shown) {
     to.put(b"<");
     show_list(tuple.items.as_slice(), to);
     to.put_at(b">", tuple.place);
@@ -289,7 +289,7 @@ fn show_tuples(tuples: &[Angle], to: &mut Shown) {
 
 /// Puts an index at the end.
 #[cycle(show)]
-pub fn show_index(index: &Index, to: &mut Shown) {
+pub(crate) fn show_index(index: &Index, to: &mut Shown) {
     show_tuple(&index.tuple, to);
     show_operator(b"in", index.place, to);
     show(index.set.get(), to);

@@ -1,13 +1,23 @@
 //! Statements as text: what they are written as, without their commas and `;`, with each expression as a
-//! tree.
+//! tree; and faults.
 
+use crate::exprs::{show, show_index, show_list, show_separator, show_tuple};
 use crate::shown::Shown;
-use crate::shown_exprs::{show, show_index, show_list, show_separator, show_tuple};
 use sqlite_items::Boxed;
-use zim_fault::{Bytes, Place, Word, word_text};
+use zim_fault::{Bytes, Fault, Kind, Place, text_of_kind, word_text};
 use zim_tree::{
     Angle, Bracket, Doing, Expr, Limit, ParSide, Printed, Reading, SetSide, Shape, Stmt, Table,
 };
+
+/// Puts a fault at the end: its kind, the refused word of an `Unsupported`, and its line behind `@`.
+pub fn show_fault(fault: &Fault, to: &mut Shown) {
+    to.put(text_of_kind(fault.kind));
+    if let Kind::Unsupported(word) = fault.kind {
+        to.put(b" ");
+        to.put(word_text(word));
+    }
+    to.put_place(fault.place);
+}
 
 /// Puts a statement at the end.
 pub fn show_stmt(stmt: &Stmt, to: &mut Shown) {
