@@ -1,0 +1,7 @@
+-- Bytes are below 256.
+use Rattle.std.proofs.Common.{ℕ, ◌<◌, arith}
+use Rattle.std.proofs.lemmas.List.Elements.{All-from_get_or}
+use Rattle.zim_columns.proofs.parts.are_bytes.Goals as goal
+
+pub returns : goal.returns
+returns c = All-from_get_or (λ (b : ℕ). b < 256) c.args.bytes.now 0 (λ i within. omega (arith, c.type_inv.bytes i))

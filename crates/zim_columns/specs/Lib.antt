@@ -1,0 +1,6 @@
+pub mod Bounds
+pub mod Names
+pub mod Declaring
+pub mod Numbers
+pub mod Parts
+pub mod Numbered
