@@ -1,0 +1,7 @@
+pub mod BinaryLaws
+pub mod TruthLaws
+pub mod AbsoluteLaws
+pub mod JoinLaws
+pub mod GuardedLaws
+pub mod ValidLaws
+pub mod SizeLaws

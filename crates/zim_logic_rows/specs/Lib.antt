@@ -1,0 +1,5 @@
+pub mod LogicRows
+pub mod Truth
+pub mod Literals
+pub mod Absolute
+pub mod Guards

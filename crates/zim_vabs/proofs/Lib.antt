@@ -1,0 +1,3 @@
+pub mod RangedLaws
+pub mod AbsoluteFormLaws
+pub mod TermLaws

@@ -1,0 +1,3 @@
+pub mod IntegerForms
+pub mod Terms
+pub mod Meaning
