@@ -13,3 +13,6 @@ pub use definitions::{Definition, Defs};
 pub use numbers::{factorial, quotient, rest};
 pub use stops::NumStop;
 pub use texts::{join, substring};
+
+#[cfg(test)]
+mod tests;

@@ -19,7 +19,7 @@ use Rattle.zim_scan.specs.Nesting.{begins_paren}
 use Rattle.zim_nesting.specs.Depth as spec
 use Rattle.zim_nesting.specs.Depth.{Depth, ◌then◌, followed, depth, angle_depth, index_depth, body_depth}
 use Rattle.zim_nesting.proofs.PieceLemmas.{Nests, opens, is_plain, plain-then, then-plain, as_tokens, as_depth, nothing_nests, loop_before, join, in_brackets, in_brackets_two, in_brackets_three, plain_before, one_plain, plain_behind, joins_plain, function_before, big_before}
-use Rattle.zim_nesting.proofs.DepthLemmas.{depth-angle, depth-index, depth-Number, depth-Text, depth-Truth, depth-Infinity, depth-Name, depth-Item, depth-Call, depth-Func, depth-Proj, depth-Paren, depth-Braces, depth-If, depth-Power, depth-Signed, depth-Big, depth-Times, depth-Member, depth-Not, depth-Forall, depth-Empty, depth-Members, depth-Tuples, depth-Those, depth-Span, depth-joined, depth-factorial}
+use Rattle.zim_nesting.proofs.DepthLaws.{depth-angle, depth-index, depth-Number, depth-Text, depth-Truth, depth-Infinity, depth-Name, depth-Item, depth-Call, depth-Func, depth-Proj, depth-Paren, depth-Braces, depth-If, depth-Power, depth-Signed, depth-Big, depth-Times, depth-Member, depth-Not, depth-Forall, depth-Empty, depth-Members, depth-Tuples, depth-Those, depth-Span, depth-joined, depth-factorial}
 
 -- the tokens nest as what the tree is known to
 pub by : {ts : List Placed} {d e : Depth} → d ≡ e → Nests ts e → Nests ts d

@@ -1,5 +1,5 @@
 pub mod PieceLemmas
-pub mod DepthLemmas
+pub mod DepthLaws
 pub mod DerivationNesting
 pub mod StatementNesting
 pub mod DeepLemmas

@@ -31,7 +31,7 @@ use Rattle.zim_nesting.specs.TokenNesting.{greatest, nesting_of}
 use Rattle.zim_nesting.specs.Depth.{Depth, plain, a_loop, inside, ◌then◌, followed, all, depth, index_depth, bracket_depth, brackets_depth, option_depth, reading_depth, entry_depth, row_depth, table_depth, given_depth, set_side_depth, par_side_depth, limit_depth, printed_depth, doing_step, doing_depth, shape_depth}
 use Rattle.zim_nesting.specs.Law.{NestsAsItsTokens}
 use Rattle.zim_nesting.proofs.PieceLemmas.{Nests, is_plain, plain-then, as_tokens, as_depth, nothing_nests, loop_before, join, in_brackets, plain_before, one_plain, plain_behind, greatest-nil}
-use Rattle.zim_nesting.proofs.DepthLemmas.{depth-Func}
+use Rattle.zim_nesting.proofs.DepthLaws.{depth-Func}
 use Rattle.zim_nesting.proofs.DerivationNesting.{by, one_on, comma_on, with_nothing, separator-plain, reads-nest, list-nests, tuple-nests, index-nests}
 
 no : {A : Type 0} → false ≡ true → A

@@ -15,7 +15,7 @@ use Rattle.zim_tree.specs.declared.stmt.Reading.{Reading}
 use Rattle.zim_tree.specs.declared.stmt.Doing.{Doing}
 use Rattle.zim_tree.specs.declared.stmt.Printed.{Printed}
 use Rattle.zim_tree.specs.StatementGrammar as tree
-use Rattle.zim_tree.specs.StatementMade.{MadeOptions, MadeReading, MadeRows, MadeTable, MadeSet, MadeParam, MadeKind, MadeDeclaration, MadeStatement, made_no_option, made_one_option, made_reading, made_no_row, made_one_row, made_table, made_set_read, made_sets_listed, made_value_read, made_values_listed, made_values_in_table, made_values_read, made_no_kind, made_kind, made_set, made_param, made_var, made_goal, made_subto, made_definition, made_declaration, made_do}
+use Rattle.zim_tree.specs.StatementMade.{MadeOptions, MadeReading, MadeRows, MadeTable, MadeSet, MadeParam, MadeDeclaration, MadeStatement, made_no_option, made_one_option, made_reading, made_no_row, made_one_row, made_table, made_set_read, made_sets_listed, made_value_read, made_values_listed, made_values_in_table, made_values_read, made_set, made_param, made_var, made_goal, made_subto, made_definition, made_declaration, made_do}
 use Rattle.zim_typed.specs.declared.constant.Const.{Const}
 use Rattle.zim_typed.specs.declared.constant.TAngle.{TAngle}
 use Rattle.zim_typed.specs.declared.statement.TStmt.{TStmt}
@@ -31,7 +31,7 @@ use Rattle.zim_typed.specs.declared.statement.TPrinted.{TPrinted}
 use Rattle.zim_typed.specs.Scope.{Names, Scope, declared, takes}
 use Rattle.zim_typed.specs.Constants.{one_const}
 use Rattle.zim_typed.specs.Statements.{IsBound, AreLimits, IsGiven, AreOptions, IsReading, AreEntries, AreRows, IsTable, IsBrackets, IsSet, IsParam, ArePrinted, IsDoing, IsShape, IsTyped, is_value, is_infinity, is_signed_infinity, is_chosen, no_limit, one_limit, not_given, is_given, no_option, one_option, is_reading, no_entry, one_entry, no_row, one_row, is_table, no_brackets, loop_brackets, set_brackets, set_value, set_read, set_family, set_for_each, sets_listed, param_value, param_read, param_for_each, params_listed, params_in_table, params_read, param_default, none_printed, value_printed, tuple_printed, do_print, do_check, do_forall, is_set, is_param, is_var, is_goal, is_subto, is_definition, is_do, is_typed}
-use Rattle.zim_typed.specs.SuitsStatement.{SuitsBound, LimitsSuit, SuitsGiven, OptionsSuit, AtMostOnce, SuitsReading, EntriesSuit, RowsSuit, SuitsTable, SuitsSet, SuitsParam, SuitsBrackets, IsKind, LimitsKept, PrintedSuit, SuitsDoing, SuitsShape, SuitsStatement, suits_value, suits_infinity, suits_signed_infinity, suits_chosen, suits_no_limit, suits_one_limit, suits_not_given, suits_given, suits_no_option, suits_one_option, suits_reading, suits_no_entry, suits_one_entry, suits_no_row, suits_one_row, suits_table, suits_set_value, suits_set_read, suits_family, suits_set_for_each, suits_sets_listed, suits_param_value, suits_param_read, suits_param_for_each, suits_params_listed, suits_params_in_table, suits_params_read, suits_default, suits_no_brackets, suits_loop_brackets, suits_set_brackets, no_kind, a_kind, suits_none_printed, suits_value_printed, suits_tuple_printed, suits_print, suits_check, suits_do_forall, suits_set, suits_param, suits_var, suits_goal, suits_subto, suits_definition, suits_declaration, suits_do}
+use Rattle.zim_typed.specs.SuitsStatement.{SuitsBound, LimitsSuit, SuitsGiven, OptionsSuit, AtMostOnce, SuitsReading, EntriesSuit, RowsSuit, SuitsTable, SuitsSet, SuitsParam, SuitsBrackets, LimitsKept, PrintedSuit, SuitsDoing, SuitsShape, SuitsStatement, suits_value, suits_infinity, suits_signed_infinity, suits_chosen, suits_no_limit, suits_one_limit, suits_not_given, suits_given, suits_no_option, suits_one_option, suits_reading, suits_no_entry, suits_one_entry, suits_no_row, suits_one_row, suits_table, suits_set_value, suits_set_read, suits_family, suits_set_for_each, suits_sets_listed, suits_param_value, suits_param_read, suits_param_for_each, suits_params_listed, suits_params_in_table, suits_params_read, suits_default, suits_no_brackets, suits_loop_brackets, suits_set_brackets, suits_none_printed, suits_value_printed, suits_tuple_printed, suits_print, suits_check, suits_do_forall, suits_set, suits_param, suits_var, suits_goal, suits_subto, suits_definition, suits_declaration, suits_do}
 use Rattle.zim_typed.proofs.ConstantLemmas.{as_many, const_suits, consts_suit, tuple_suits, loop_suits}
 use Rattle.zim_typed.proofs.TermLemmas.{term_suits, con_suits}
 
@@ -108,10 +108,6 @@ brackets_suit no_brackets = suits_no_brackets
 brackets_suit (loop_brackets l) = suits_loop_brackets (loop_suits l)
 brackets_suit (set_brackets c) = suits_set_brackets (const_suits c)
 
-kind_suits : {kind : Option Word} → MadeKind kind → IsKind kind
-kind_suits made_no_kind = no_kind
-kind_suits (made_kind word is) = a_kind is
-
 -- as many bounds are from below, or above, counted on from a number
 limit_count : {scope : Scope} {names : Names} (test : Bool → Bool) (n : ℕ) {limits : List Limit} {cs : List TLimit} → AreLimits scope names limits cs →
     fold (λ (a : ℕ) (l : Limit). a + cond (test l.lower) 1 0) n limits ≡ fold (λ (a : ℕ) (l : TLimit). a + cond (test l.lower) 1 0) n cs
@@ -140,7 +136,7 @@ shape_suits : {scope : Scope} {what : Shape} {typed : TShape} → MadeDeclaratio
 shape_suits (made_set made) (is_set s) = suits_set (set_suits made s)
 shape_suits (made_param made) (is_param s) = suits_param (param_suits made s)
 shape_suits (made_var limits_kept b made limits priority startval) (is_var kind brackets cs d e) =
-    suits_var (kept cs limits_kept) (brackets_suit brackets) (kind_suits made) (limits_suit cs) (given_suits d) (given_suits e)
+    suits_var (kept cs limits_kept) (brackets_suit brackets) made (limits_suit cs) (given_suits d) (given_suits e)
 shape_suits (made_goal maximize made) (is_goal m t) = suits_goal m (term_suits t)
 shape_suits (made_subto made) (is_subto c) = suits_subto (con_suits c)
 shape_suits (made_definition word parameters is made) (is_definition w ps c) = suits_definition ps is (const_suits c)

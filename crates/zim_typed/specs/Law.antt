@@ -1,4 +1,4 @@
--- The laws of typed trees: what belongs to a tree under a scope suits the scope.
+-- The laws of typed trees: what belongs to a tree under a scope suits the scope, and nests as deep as the tree.
 use Rattle.std.specs.Prelude.{◌≡◌, None}
 use Rattle.zim_tree.specs.declared.expr.Expr.{Expr}
 use Rattle.zim_tree.specs.declared.stmt.Stmt.{Stmt}
@@ -12,6 +12,8 @@ use Rattle.zim_typed.specs.Scope.{Names, Scope, declared}
 use Rattle.zim_typed.specs.Constants.{IsConst}
 use Rattle.zim_typed.specs.Terms.{IsTerm, IsCond, IsCon}
 use Rattle.zim_typed.specs.Statements.{IsTyped}
+use Rattle.zim_nesting.specs.Depth.{depth}
+use Rattle.zim_typed.specs.Nesting.{const_depth}
 use Rattle.zim_typed.specs.Suits.{SuitsConst, SuitsTerm, SuitsCond, SuitsCon}
 use Rattle.zim_typed.specs.SuitsStatement.{SuitsStatement}
 
@@ -34,3 +36,7 @@ ConstraintSuits = (scope : Scope) (names : Names) (e : Expr) (c : Con) → IsCon
 -- the typed statement that a statement is suits the scope, where the statement is made of its parts and its name is new
 abbrev pub StatementSuits : Type 0
 StatementSuits = (scope : Scope) (stmt : Stmt) (typed : TStmt) → MadeStatement stmt → declared scope stmt.name ≡ None → IsTyped scope stmt typed → SuitsStatement scope typed
+
+-- the constant that an expression is nests as the expression
+abbrev pub ConstantNests : Type 0
+ConstantNests = (scope : Scope) (names : Names) (e : Expr) (c : Const) → IsConst scope names e c → depth e ≡ const_depth c

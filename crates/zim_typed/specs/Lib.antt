@@ -8,3 +8,7 @@ pub mod Statements
 pub mod Suits
 pub mod SuitsStatement
 pub mod Law
+pub mod Worked
+pub mod FirstPlace
+pub mod Nesting
+pub mod After

@@ -6,7 +6,8 @@ use Rattle.zim_fault.specs.declared.words.Word.{Word}
 use Rattle.zim_fault.specs.declared.words.Word.TheVariants.{WBinary}
 use Rattle.zim_tree.specs.declared.classes.Class.TheVariants as class
 use Rattle.zim_tree.specs.Classes.{word_class}
-use Rattle.zim_tree.specs.StatementGrammar.{is_option, is_skip, is_use, is_comment, is_kind, is_definition}
+use Rattle.zim_tree.specs.StatementGrammar.{is_option, is_skip, is_use, is_comment, is_definition}
+use Rattle.zim_tree.specs.StatementMade.{MadeKind}
 use Rattle.zim_typed.specs.declared.constant.Const.{Const}
 use Rattle.zim_typed.specs.declared.constant.Const.TheVariants as const
 use Rattle.zim_typed.specs.declared.constant.TAngle.{TAngle}
@@ -120,11 +121,6 @@ pub data SuitsBrackets (scope : Scope) : Option TBracket → Names → Type 0 wh
   suits_loop_brackets : {names : Names} {index : Loop} → SuitsLoop scope [] index names → SuitsBrackets scope (Some (bracket.Loop index)) names
   suits_set_brackets : {over : Const} → SuitsConst scope [] over → SuitsBrackets scope (Some (bracket.Over over)) []
 
--- nothing, or the kind of a variable
-pub data IsKind : Option Word → Type 0 where
-  no_kind : IsKind None
-  a_kind : {word : Word} → is_kind word ≡ true → IsKind (Some word)
-
 -- at most one bound from below and one from above, and none for a binary variable
 abbrev pub LimitsKept : Option Word → List TLimit → Type 0
 LimitsKept kind limits = (count_by (λ (l : TLimit). l.lower) limits ≤ 1) × (count_by (λ (l : TLimit). not l.lower) limits ≤ 1) × (kind ≡ Some WBinary → limits ≡ [])
@@ -149,7 +145,7 @@ pub data SuitsShape (scope : Scope) : TShape → Type 0 where
   suits_set : {brackets : Option TBracket} {side : TSetSide} → SuitsSet scope brackets side → SuitsShape scope (shape.Set brackets side)
   suits_param : {brackets : Option TBracket} {side : TParSide} → SuitsParam scope brackets side → SuitsShape scope (shape.Param brackets side)
   suits_var : {names : Names} {brackets : Option TBracket} {kind : Option Word} {limits : List TLimit} {priority startval : Option (Place × Const)} →
-      LimitsKept kind limits → SuitsBrackets scope brackets names → IsKind kind → LimitsSuit scope names limits → SuitsGiven scope names priority →
+      LimitsKept kind limits → SuitsBrackets scope brackets names → MadeKind kind → LimitsSuit scope names limits → SuitsGiven scope names priority →
       SuitsGiven scope names startval → SuitsShape scope (shape.Var brackets kind limits priority startval)
   suits_goal : (maximize : Bool) {objective : Term} → SuitsTerm scope [] objective → SuitsShape scope (shape.Goal maximize objective)
   suits_subto : {constraint : Con} → SuitsCon scope [] constraint → SuitsShape scope (shape.Subto constraint)

@@ -4,17 +4,21 @@ use Rattle.std.specs.List.{list_any}
 use Rattle.zim_fault.specs.declared.words.Word.{Word}
 use Rattle.zim_fault.specs.declared.words.Word.TheVariants.{WVabs}
 use Rattle.zim_tree.specs.declared.expr.Expr.{Expr, Expr-F, fold-Expr}
-use Rattle.zim_tree.specs.declared.expr.Angle.{Angle-F}
-use Rattle.zim_tree.specs.declared.expr.Index.{Index-F}
-use Rattle.zim_tree.specs.declared.expr.Body.{Body-F}
+use Rattle.zim_tree.specs.declared.expr.Angle.{Angle, Angle-F, fold-Angle}
+use Rattle.zim_tree.specs.declared.expr.Index.{Index, Index-F, fold-Index}
+use Rattle.zim_tree.specs.declared.expr.Body.{Body, Body-F, fold-Body}
 use Rattle.zim_typed.specs.declared.scope.Declared.{Declared}
 use Rattle.zim_typed.specs.declared.scope.Declared.TheVariants.{Variable}
-use Rattle.zim_typed.specs.Scope.{Scope, declared}
+use Rattle.zim_typed.specs.Scope.{Text, Scope, declared}
 
 -- the name of a variable
 abbrev pub is_variable : Option Declared → Bool
 is_variable (Some (Variable indexed)) = true
 is_variable _ = false
+
+-- a name is that of a variable
+abbrev pub names_variable : Scope → Text → Bool
+names_variable scope name = is_variable (declared scope name)
 
 -- `vabs`
 abbrev pub is_vabs : Word → Bool
@@ -41,9 +45,9 @@ expr_step scope (Expr-F.Number place digits) = false
 expr_step scope (Expr-F.Text place text double) = false
 expr_step scope (Expr-F.Truth place truth) = false
 expr_step scope (Expr-F.Infinity place) = false
-expr_step scope (Expr-F.Name place name) = is_variable (declared scope name)
-expr_step scope (Expr-F.Item place name index) = is_variable (declared scope name) || one_of index
-expr_step scope (Expr-F.Call place name arguments) = is_variable (declared scope name) || one_of arguments
+expr_step scope (Expr-F.Name place name) = names_variable scope name
+expr_step scope (Expr-F.Item place name index) = names_variable scope name || one_of index
+expr_step scope (Expr-F.Call place name arguments) = names_variable scope name || one_of arguments
 expr_step scope (Expr-F.Func place function arguments) = is_vabs function || one_of arguments
 expr_step scope (Expr-F.Proj place set positions) = set || positions
 expr_step scope (Expr-F.Paren place inner) = inner
@@ -81,3 +85,15 @@ body_step (Body-F.Span from with_to to by) = from || to || given by
 -- whether an expression has variables
 abbrev pub has_variables : Scope → Expr → Bool
 has_variables scope = fold-Expr Bool Bool Bool Bool body_step (expr_step scope) angle_step index_step
+
+-- whether a tuple has
+abbrev pub tuple_has_variables : Scope → Angle → Bool
+tuple_has_variables scope = fold-Angle Bool Bool Bool Bool body_step (expr_step scope) angle_step index_step
+
+-- whether an index has
+abbrev pub index_has_variables : Scope → Index → Bool
+index_has_variables scope = fold-Index Bool Bool Bool Bool body_step (expr_step scope) angle_step index_step
+
+-- whether what stands in braces has
+abbrev pub body_has_variables : Scope → Body → Bool
+body_has_variables scope = fold-Body Bool Bool Bool Bool body_step (expr_step scope) angle_step index_step

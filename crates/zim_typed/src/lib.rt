@@ -7,13 +7,14 @@
 
 mod constant;
 mod constraint;
+mod first_place;
 mod law;
 mod scope;
 mod statement;
 
 pub use constant::{Const, Loop, LoopSlot, Resolved, TAngle, TBody};
 pub use constraint::{Con, Cond, Term};
-pub use law::typed_trees_suit;
+pub use law::{constants_nest_as_their_trees, typed_trees_of_some_expressions, typed_trees_suit};
 pub use scope::Declared;
 pub use statement::{
     TBracket, TDoing, TLimit, TParSide, TPrinted, TReading, TSetSide, TShape, TStmt, TTable,

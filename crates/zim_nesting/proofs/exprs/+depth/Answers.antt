@@ -7,7 +7,7 @@ use Rattle.zim_fault.specs.declared.tokens.Relation.{Relation}
 use Rattle.zim_tree.specs.declared.expr.Expr.{Expr}
 use Rattle.zim_nesting.specs.Depth.{plain, a_loop, depth, angle_depth, operations_depth, relations_depth, conjuncts_depth, disjuncts_depth}
 use Rattle.zim_nesting.proofs.CountsLemmas.{given, followed-next}
-use Rattle.zim_nesting.proofs.DepthLemmas.{index-view, depth-Proj, depth-If, depth-Big, depth-Times, depth-Plus, depth-Compare, depth-And, depth-Or, depth-Forall, depth-Span}
+use Rattle.zim_nesting.proofs.DepthLaws.{index-view, depth-Proj, depth-If, depth-Big, depth-Times, depth-Plus, depth-Compare, depth-And, depth-Or, depth-Forall, depth-Span}
 use Rattle.zim_nesting.proofs.exprs.+depth.Goals as goal
 
 pub depth_of_expr-returns-in-Proj : goal.depth_of_expr-returns-in-Proj

@@ -1,0 +1,3 @@
+mod ScopeLemmas
+mod AroundLemmas
+mod ListLemmas

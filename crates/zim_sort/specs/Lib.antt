@@ -1,0 +1,6 @@
+pub mod Scopes
+pub mod Roles
+pub mod Around
+pub mod Faults
+pub mod Calls
+pub mod StatementFaults
