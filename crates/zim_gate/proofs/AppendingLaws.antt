@@ -9,19 +9,19 @@ use Rattle.std.specs.FinMap as map
 use Rattle.zim_gate.specs.declared.stops.Failed.{Failed}
 use Rattle.zim_gate.specs.Counts.{count_on}
 use Rattle.zim_gate.proofs.Counting.{Rose-from, IsFrontOf-longer, IsFrontOf-after}
-use Rattle.zim_gate.specs.Folder.{Files, FolderState, Appends, Puts, put_to, appended_to}
+use Rattle.zim_gate.specs.Folder.{HeldFiles, FolderState, Appends, Puts, put_to, appended_to}
 
 -- two folders' files that answer alike are the same
-same_files : (a b : Files) → ((q : List ℕ) → map.get a q ≡ map.get b q) → a ≡ b
+same_files : (a b : HeldFiles) → ((q : List ℕ) → map.get a q ≡ map.get b q) → a ≡ b
 same_files a b h = map.same_map nat_list_cmp_total (map.slice_cmp-IsAntisymmetric map.nat_cmp-IsAntisymmetric) a b h
 
 -- what a name holds after an insert
-pub get_after : (files : Files) (name bytes q : List ℕ) →
+pub get_after : (files : HeldFiles) (name bytes q : List ℕ) →
     map.get (map.insert files name bytes) q ≡ cond (eq_by_cmp (slice_cmp nat_cmp) q name) (Some bytes) (map.get files q)
 get_after files name bytes q = map.get-insert nat_list_cmp_total files name bytes q
 
 -- a name that ties with another holds the same
-get_tied : (files : Files) (q name : List ℕ) → eq_by_cmp (slice_cmp nat_cmp) q name ≡ true → map.get files name ≡ map.get files q
+get_tied : (files : HeldFiles) (q name : List ℕ) → eq_by_cmp (slice_cmp nat_cmp) q name ≡ true → map.get files name ≡ map.get files q
 get_tied files q name e = map.get_tied nat_list_cmp_total files q name ((Equal-is (slice_cmp nat_cmp q name)).0 e)
 
 -- a test that picks what is there anyway picks nothing new
@@ -30,7 +30,7 @@ picks_same true x y h = h refl
 picks_same false x y h = refl
 
 -- to insert what a name holds changes nothing
-pub insert_own : (files : Files) (name bytes : List ℕ) → map.get files name ≡ Some bytes → map.insert files name bytes ≡ files
+pub insert_own : (files : HeldFiles) (name bytes : List ℕ) → map.get files name ≡ Some bytes → map.insert files name bytes ≡ files
 insert_own files name bytes e =
     same_files _ files (λ q. get_after files name bytes q
     ∙ picks_same (eq_by_cmp (slice_cmp nat_cmp) q name) (Some bytes) (map.get files q) (λ t. sym e ∙ get_tied files q name t))
@@ -41,7 +41,7 @@ picks_again true x y z = refl
 picks_again false x y z = refl
 
 -- of two inserts at a name the last counts
-pub insert_again : (files : Files) (name old new : List ℕ) → map.insert (map.insert files name old) name new ≡ map.insert files name new
+pub insert_again : (files : HeldFiles) (name old new : List ℕ) → map.insert (map.insert files name old) name new ≡ map.insert files name new
 insert_again files name old new =
     same_files _ _ (λ q. get_after (map.insert files name old) name new q
     ∙ ap (cond (eq_by_cmp (slice_cmp nat_cmp) q name) (Some new)) (get_after files name old q)
@@ -53,22 +53,22 @@ tied_own : (name : List ℕ) → eq_by_cmp (slice_cmp nat_cmp) name name ≡ tru
 tied_own name = (Equal-is (slice_cmp nat_cmp name name)).1 (tied_itself nat_list_cmp_total name)
 
 -- what is inserted is held
-pub get_inserted : (files : Files) (name bytes : List ℕ) → map.get (map.insert files name bytes) name ≡ Some bytes
+pub get_inserted : (files : HeldFiles) (name bytes : List ℕ) → map.get (map.insert files name bytes) name ≡ Some bytes
 get_inserted files name bytes =
     get_after files name bytes name ∙ ap (λ b. cond b (Some bytes) (map.get files name)) (tied_own name)
 
 -- to append nothing changes nothing
-appended_nothing : (name : List ℕ) (files : Files) (held : Option (List ℕ)) → map.get files name ≡ held → appended_to name [] files held ≡ files
+appended_nothing : (name : List ℕ) (files : HeldFiles) (held : Option (List ℕ)) → map.get files name ≡ held → appended_to name [] files held ≡ files
 appended_nothing name files None e = refl
 appended_nothing name files (Some old) e = ap (map.insert files name) (append-nil old) ∙ insert_own files name old e
 
 -- to put nothing changes no file
-pub put_to-nothing : (begun : Option (List ℕ)) (files : Files) → put_to begun [] files ≡ files
+pub put_to-nothing : (begun : Option (List ℕ)) (files : HeldFiles) → put_to begun [] files ≡ files
 put_to-nothing None files = refl
 put_to-nothing (Some name) files = appended_nothing name files (map.get files name) refl
 
 -- an append of two texts is an append of one and then of the other
-appended_both : (name x y : List ℕ) (files : Files) (held : Option (List ℕ)) → map.get files name ≡ held →
+appended_both : (name x y : List ℕ) (files : HeldFiles) (held : Option (List ℕ)) → map.get files name ≡ held →
     appended_to name (x ++ y) files held ≡ put_to (Some name) y (appended_to name x files held)
 appended_both name x y files None e = ap (appended_to name y files) (sym e)
 appended_both name x y files (Some old) e =
@@ -76,7 +76,7 @@ appended_both name x y files (Some old) e =
     ∙ ap (appended_to name y (map.insert files name (old ++ x))) (sym (get_inserted files name (old ++ x)))
 
 -- to put two texts is to put one and then the other
-pub put_to-both : (begun : Option (List ℕ)) (x y : List ℕ) (files : Files) → put_to begun (x ++ y) files ≡ put_to begun y (put_to begun x files)
+pub put_to-both : (begun : Option (List ℕ)) (x y : List ℕ) (files : HeldFiles) → put_to begun (x ++ y) files ≡ put_to begun y (put_to begun x files)
 put_to-both None x y files = refl
 put_to-both (Some name) x y files = appended_both name x y files (map.get files name) refl
 

@@ -1,13 +1,13 @@
 -- What a put does to a folder in memory.
-use Rattle.std.proofs.Common.{◌≡◌, ℕ, ◌≤◌, Bool, true, false, List, [], ◌∷◌, ◌++◌, min, length, take, drop, Option, Some, Ok, Err, IsSome, refl, sym, ap, ◌∙◌, subst, arith, inl, inr}
+use Rattle.std.proofs.Common.{◌≡◌, ℕ, ◌≤◌, Bool, true, false, List, [], ◌∷◌, ◌++◌, min, length, take, drop, Option, Some, Ok, Err, IsSome, IsTrue, option_and_then, unwrap_or, ◌-◌, ◌==◌, nat_le, refl, sym, ap, ◌∙◌, subst, arith, inl, inr}
 use Rattle.std.proofs.lemmas.List.{take-append-drop, length-take-le, append-nil}
 use Rattle.std.proofs.Math.ListN.{drop_of_length-le}
-use Rattle.std.proofs.lemmas.Bool.{cases_lt}
+use Rattle.std.proofs.lemmas.Bool.{cases_lt, and_parts, eqb-true}
 use Rattle.zim_gate.specs.declared.stops.Failed.{Failed}
 use Rattle.zim_gate.specs.declared.stored.Stored.{Stored}
 use Rattle.zim_gate.specs.Counts.{Rose, count_on}
-use Rattle.zim_gate.specs.Folder.{FolderState, Appends, Puts, put_to, appended_to}
-use Rattle.zim_gate.specs.Stored.{files_of, first_appended, begun_name}
+use Rattle.zim_gate.specs.Folder.{FolderState, Appends, Puts, put_to, appended_to, bytes_of_name}
+use Rattle.zim_gate.specs.Stored.{files_of, first_appended, begun_name, is_ready, room_left}
 use Rattle.zim_gate.proofs.AppendingLaws.{Appends-nothing, insert_again, get_inserted}
 
 -- what is known of a folder in memory, by its parts
@@ -36,6 +36,15 @@ name_after : (begun : Bool) (files : List Stored) (bytes : List ℕ) → begun_n
 name_after true (file ∷ files) bytes = refl
 name_after true [] bytes = refl
 name_after false files bytes = refl
+
+-- the room that is left of the first file is that of the file that is begun
+pub room_is : (begun : Bool) (files : List Stored) (room wrote : ℕ) → IsTrue (is_ready begun files room wrote) → IsSome (begun_name begun files) →
+    room - length (unwrap_or (option_and_then (bytes_of_name (Some (files_of files))) (begun_name begun files)) []) ≡ room_left files
+room_is true (file ∷ files) room wrote ready some =
+    ap (λ held. room - length (unwrap_or held [])) (get_inserted (files_of files) file.name file.content.bytes)
+    ∙ ap (λ r. r - length file.content.bytes) (sym (eqb-true file.content.room room (and_parts (file.content.room == room) (nat_le (length file.content.bytes) wrote) ready).0))
+room_is true [] room wrote ready some = cc
+room_is false files room wrote ready some = cc
 
 -- a front that is as long as the list is the list
 take_whole : (piece : List ℕ) (n : ℕ) → length piece ≤ n → take n piece ≡ piece
@@ -89,11 +98,12 @@ module _ (begun : Bool) (files : List Stored) (rest : List ℕ) (wrote read_faul
           faultless_below = same;
         }
 
-    -- a put appends what fits
-    pub memory_fits : Appends (known begun files rest wrote read_faults write_faults promise) (known begun now rest v read_faults faults kept) (take left piece)
-    memory_fits =
+    -- a put appends what fits in the room that is left
+    pub memory_fits : (room : ℕ) → room ≡ left →
+        Appends (known begun files rest wrote read_faults write_faults promise) (known begun now rest v read_faults faults kept) (take room piece)
+    memory_fits room is_left =
         subst (λ bytes. Appends (known begun files rest wrote read_faults write_faults promise) (known begun now rest v read_faults faults kept) bytes)
-        (fitting piece left count counts) appends_counted
+        (fitting piece room count (counts ∙ ap (min (length piece)) (sym is_left))) appends_counted
 
     -- a put that passes the room stops
     pub memory_stops : (e : Failed) → Rose write_faults faults →

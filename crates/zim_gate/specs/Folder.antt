@@ -12,13 +12,13 @@ use Rattle.zim_gate.specs.declared.stops.Failed.{Failed}
 use Rattle.zim_gate.specs.Counts.{Rose, count_on, IsFrontOf}
 
 -- files: their bytes by their names
-abbrev pub Files : Type 0
-Files = map.FinMap (slice_cmp nat_cmp) (List ℕ)
+abbrev pub HeldFiles : Type 0
+HeldFiles = map.FinMap (slice_cmp nat_cmp) (List ℕ)
 
 -- what is known of a folder
 pub record FolderState : Type 0 where
   -- the files that it holds, or None where they aren't told
-  pub held : Option Files
+  pub held : Option HeldFiles
   -- the rest of the file that is open for reading, which is empty where nothing is open; None where it isn't told
   pub rest : Option (List ℕ)
   -- the name that is begun for writing
@@ -40,20 +40,20 @@ pub record IsSound (state : FolderState) : Type 0 where
       (state.read_faults ≡ 0) × (state.write_faults ≡ 0)
 
 -- the bytes that a name holds, where files are told and hold it
-abbrev pub bytes_held : Option Files → List ℕ → Option (List ℕ)
-bytes_held held name = option_and_then (λ files. map.get files name) held
+abbrev pub bytes_of_name : Option HeldFiles → List ℕ → Option (List ℕ)
+bytes_of_name held name = option_and_then (λ files. map.get files name) held
 
 -- files in which the name holds nothing, made anew if need be
-abbrev pub emptied : List ℕ → Files → Files
+abbrev pub emptied : List ℕ → HeldFiles → HeldFiles
 emptied name files = map.insert files name []
 
 -- what a file holds after an append; a name that isn't held stays so
-abbrev pub appended_to : List ℕ → List ℕ → Files → Option (List ℕ) → Files
+abbrev pub appended_to : List ℕ → List ℕ → HeldFiles → Option (List ℕ) → HeldFiles
 appended_to name bytes files None = files
 appended_to name bytes files (Some old) = map.insert files name (old ++ bytes)
 
 -- files with bytes appended to the one that is begun, and every other one as it was
-abbrev pub put_to : Option (List ℕ) → List ℕ → Files → Files
+abbrev pub put_to : Option (List ℕ) → List ℕ → HeldFiles → HeldFiles
 put_to None bytes files = files
 put_to (Some name) bytes files = appended_to name bytes files (map.get files name)
 
@@ -62,14 +62,14 @@ abbrev pub IsClosed : FolderState → Type 0
 IsClosed state = state.rest ≡ option_map (λ _. []) state.held
 
 -- `Missing` comes for a name that told files don't hold, and is no fault; where they aren't told, it is one
-abbrev pub IsMissing : Option Files → List ℕ → ℕ → ℕ → Type 0
+abbrev pub IsMissing : Option HeldFiles → List ℕ → ℕ → ℕ → Type 0
 IsMissing None name before now = Rose before now
 IsMissing (Some files) name before now = (map.get files name ≡ None) × (now ≡ before)
 
 -- `open`. Told files that don't hold the name leave `Missing`, `Memory` and, with a risen count, `Failed`.
 pub record Opens (before now : FolderState) (name : List ℕ) (result : Result ⊤ OpenStop) : Type 0 where
-  pub ok : OnOk result (now.rest ≡ bytes_held before.held name)
-  pub only_held : OnOk result (IsSome before.held → IsSome (bytes_held before.held name))
+  pub ok : OnOk result (now.rest ≡ bytes_of_name before.held name)
+  pub only_held : OnOk result (IsSome before.held → IsSome (bytes_of_name before.held name))
   pub err : OnErr result (IsClosed now)
   pub failed : IsErrOf result stop.Failed → Rose before.read_faults now.read_faults
   pub missing : IsErrOf result stop.Missing → IsMissing before.held name before.read_faults now.read_faults
@@ -142,4 +142,12 @@ pub record Ends (before now : FolderState) (result : Result ⊤ Failed) : Type 0
   pub wrote : now.wrote ≡ before.wrote
   pub read_faults : now.read_faults ≡ before.read_faults
   pub write_faults : before.write_faults ≤ now.write_faults
+  pub faultless_below : now.faultless_below ≡ before.faultless_below
+
+-- the folder did nothing but read, and maybe fail at that
+pub record OnlyRead (before now : FolderState) : Type 0 where
+  pub held : now.held ≡ before.held
+  pub wrote : now.wrote ≡ before.wrote
+  pub read_faults : before.read_faults ≤ now.read_faults
+  pub write_faults : now.write_faults ≡ before.write_faults
   pub faultless_below : now.faultless_below ≡ before.faultless_below

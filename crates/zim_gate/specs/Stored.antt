@@ -2,14 +2,14 @@
 use Rattle.std.specs.Prelude.{ℕ, ◌-◌, Bool, true, false, ◌&&◌, nat_le, ◌==◌, List, [], ◌∷◌, ◌++◌, length, map, Option, None, Some}
 use Rattle.std.specs.FinMap as finite
 use Rattle.zim_gate.specs.declared.stored.Stored.{Stored}
-use Rattle.zim_gate.specs.Folder.{Files}
+use Rattle.zim_gate.specs.Folder.{HeldFiles}
 
 -- the names and bytes of stored files
 abbrev pub entries_of : List Stored → List (List ℕ × List ℕ)
 entries_of files = map (λ file. (file.name, file.content.bytes)) files
 
 -- what stored files hold by name
-abbrev pub files_of : List Stored → Files
+abbrev pub files_of : List Stored → HeldFiles
 files_of files = finite.from_entries (entries_of files)
 
 -- stored files with bytes appended to the first

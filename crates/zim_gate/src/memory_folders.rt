@@ -1,4 +1,4 @@
-ghost use Rattle.std.specs.Prelude.{◌≡◌, ◌<◌, ◌⊎◌, ◌↔◌, [], length, take, IsTrue, IsSome, IsErr, IsErrOf, IfOk, option_copied};
+ghost use Rattle.std.specs.Prelude.{◌≡◌, ◌<◌, ◌⊎◌, ◌↔◌, [], length, take, IsTrue, IsSome, IsErr, IsErrOf, IfOk, OnOk, option_copied};
 ghost use Rattle.zim_gate.specs.Stored.{is_ready};
 
 use crate::calls::{Calls, counted_on, one_more};
@@ -32,7 +32,7 @@ pub struct MemoryFolder {
 }
 
 impl MemoryFolder {
-    ghost use Rattle.zim_gate.specs.Folder.{FolderState, bytes_held};
+    ghost use Rattle.zim_gate.specs.Folder.{FolderState, bytes_of_name};
     ghost use Rattle.zim_gate.specs.MemoryFolder.{folder_state, new_state, call_count, failing_calls, folder_room};
 
     /// A folder with these files. Where a name stands twice, the first pair counts. `room` is the most
@@ -63,7 +63,7 @@ impl MemoryFolder {
 
     /// The bytes that a name holds, or `None` exactly where it isn't held.
     pub fn bytes_of(&self, name: &[u8]) -> Option<&[u8]>
-        ensures { option_copied result ≡ bytes_held (folder_state self.now).held name.now }
+        ensures { option_copied result ≡ bytes_of_name (folder_state self.now).held name.now }
     {
         find(&self.files, name)
     }
@@ -71,7 +71,7 @@ impl MemoryFolder {
 
 impl Folder for MemoryFolder {
     ghost use Rattle.zim_gate.specs.Folder.{Opens, Reads, Begins, Puts, Ends, put_to};
-    ghost use Rattle.zim_gate.specs.MemoryFolder.{folder_state, CallFails, PassesRoom, CountsCall, PutsWhatFits};
+    ghost use Rattle.zim_gate.specs.MemoryFolder.{folder_state, CallFails, PassesRoom, CountsCall, KeepsFaults, PutsWhatFits};
     ghost use Rattle.zim_gate.specs.MemoryFolderLaws.{folder_state-IsSound};
 
     ghost state = { folder_state };
@@ -82,6 +82,7 @@ impl Folder for MemoryFolder {
         ensures opens { Opens (folder_state self.old) (folder_state self.new) name.now result }
         ensures failed { IsErrOf result OpenStop.Failed ↔ CallFails self.old }
         ensures counts { CountsCall self.old self.new }
+        ensures kept { OnOk result (KeepsFaults self.old self.new) }
     {
         self.begun = false;
         self.reading = Reading::closed(self.alloc);
@@ -106,6 +107,7 @@ impl Folder for MemoryFolder {
         ensures reads { Reads (folder_state self.old) (folder_state self.new) buf.new result }
         ensures failed { IsErr result ↔ CallFails self.old }
         ensures counts { CountsCall self.old self.new }
+        ensures kept { OnOk result (KeepsFaults self.old self.new) }
     {
         if self.calls.next_fails() {
             self.read_faults = one_more(self.read_faults);
@@ -118,6 +120,7 @@ impl Folder for MemoryFolder {
         ensures begins { Begins (folder_state self.old) (folder_state self.new) name.now result }
         ensures failed { IsErrOf result BeginStop.Failed ↔ CallFails self.old }
         ensures counts { CountsCall self.old self.new }
+        ensures kept { OnOk result (KeepsFaults self.old self.new) }
     {
         self.begun = false;
         self.reading = Reading::closed(self.alloc);
@@ -140,6 +143,7 @@ impl Folder for MemoryFolder {
         ensures failed { IsErr result ↔ (CallFails self.old ⊎ PassesRoom self.old piece.now) }
         ensures fits { PutsWhatFits self.old self.new piece.now }
         ensures counts { CountsCall self.old self.new }
+        ensures kept { OnOk result (KeepsFaults self.old self.new) }
     {
         if self.calls.next_fails() {
             self.write_faults = one_more(self.write_faults);
@@ -159,6 +163,7 @@ impl Folder for MemoryFolder {
         ensures ends { Ends (folder_state self.old) (folder_state self.new) result }
         ensures failed { IsErr result ↔ CallFails self.old }
         ensures counts { CountsCall self.old self.new }
+        ensures kept { OnOk result (KeepsFaults self.old self.new) }
     {
         self.begun = false;
         if self.calls.next_fails() {

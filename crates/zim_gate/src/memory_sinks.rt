@@ -1,4 +1,4 @@
-ghost use Rattle.std.specs.Prelude.{◌≡◌, ◌⊎◌, ◌↔◌, IsErr, IfOk, Some};
+ghost use Rattle.std.specs.Prelude.{◌≡◌, ◌⊎◌, ◌↔◌, IsErr, IfOk, OnOk, Some};
 
 use crate::calls::{Calls, one_more};
 use crate::limited::Limited;
@@ -55,6 +55,7 @@ impl Sink for MemorySink {
         ensures failed { IsErr result ↔ (PutFails self.old ⊎ PutPassesRoom self.old piece.now) }
         ensures fits { TakesWhatFits self.old self.new piece.now }
         ensures counts { CountsPut self.old self.new }
+        ensures kept { OnOk result ((sink_state self.new).faults ≡ (sink_state self.old).faults) }
     {
         if self.calls.next_fails() {
             self.faults = one_more(self.faults);
