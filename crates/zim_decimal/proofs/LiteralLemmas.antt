@@ -20,7 +20,7 @@ use Rattle.zim_fraction.specs.declared.fault.Past.{Past}
 use Rattle.zim_fraction.proofs.AnswerLaws.{quotient_answer_some}
 use Rattle.zim_rational.specs.Rational.{abs_neg}
 use Rattle.std.specs.List.{position_or_len}
-use Rattle.zim_decimal.specs.Token.{is_number as is_token, is_mark, is_point, decimal_digits, exponent_text, is_field}
+use Rattle.zim_decimal.specs.Token.{is_number_token as is_token, is_mark, is_point, decimal_digits, exponent_text, is_field}
 use Rattle.zim_decimal.specs.Literal.{value_answer, scaled, is_near, scaled_answer, significand, last_zeros, digits_of, power_of_ten, literal_answer, signed_answer, field_answer}
 use Rattle.zim_decimal.specs.Digits.{IsCounted}
 use Rattle.zim_decimal.specs.Exponent.{cap, capped, capped_exponent}

@@ -7,7 +7,7 @@ use Rattle.std.proofs.lemmas.List.{take_all, length-drop, drop-drop}
 use Rattle.std.proofs.Math.Seq.{take-length, drop-length}
 use Rattle.std.proofs.lemmas.List.Sums.{prefix_len-le-length}
 use borrow.Author.Tests.{ltb-false}
-use Rattle.zim_decimal.specs.Token.{are_digits, are_parts, is_point, is_mark, is_mantissa, is_exponent, is_number, mantissa, from_first}
+use Rattle.zim_decimal.specs.Token.{are_digits, are_parts, is_point, is_mark, is_mantissa, is_exponent, is_number_token, mantissa, from_first}
 use Rattle.std.specs.Str.Parse.{without_leading_sign}
 use Rattle.std.proofs.lemmas.Bool.{and_parts}
 
@@ -69,14 +69,14 @@ mantissa_other text n a at other all t =
     ∙ sym (parts_some text n (point_there text n at other)) ∙ ap (λ m. are_parts (take m text) (drop m text)) at
 
 -- a number token is a number and the exponent
-pub number_parts : (text : List ℕ) (n : ℕ) (a r : Bool) → n ≡ position_or_len is_mark text → a ≡ is_mantissa (take n text) → a ≡ true → r ≡ is_exponent (take (length text - n) (drop n text)) → r ≡ is_number text
-unfolding is_number
+pub number_parts : (text : List ℕ) (n : ℕ) (a r : Bool) → n ≡ position_or_len is_mark text → a ≡ is_mantissa (take n text) → a ≡ true → r ≡ is_exponent (take (length text - n) (drop n text)) → r ≡ is_number_token text
+unfolding is_number_token
 number_parts text n a r at all t e =
     both_true (is_mantissa (take n text)) (is_exponent (drop n text)) r (sym all ∙ t) (e ∙ ap is_exponent (to_end text n))
     ∙ ap (λ m. is_mantissa (take m text) && is_exponent (drop m text)) at
 
-pub number_other : (text : List ℕ) (n : ℕ) (a : Bool) → n ≡ position_or_len is_mark text → a ≡ is_mantissa (take n text) → a ≡ false → a ≡ is_number text
-unfolding is_number
+pub number_other : (text : List ℕ) (n : ℕ) (a : Bool) → n ≡ position_or_len is_mark text → a ≡ is_mantissa (take n text) → a ≡ false → a ≡ is_number_token text
+unfolding is_number_token
 number_other text n a at all t =
     all ∙ first_false (is_mantissa (take n text)) (is_exponent (drop n text)) (sym all ∙ t)
     ∙ ap (λ m. is_mantissa (take m text) && is_exponent (drop m text)) at
@@ -107,25 +107,25 @@ exponent_digits : (part : List ℕ) → is_exponent part ≡ true → list_all i
 exponent_digits [] h = refl
 exponent_digits (mark ∷ exponent) h = all_digits (without_leading_sign exponent) h
 
-mantissa_of : (text : List ℕ) → is_number text ≡ true → are_parts (before_first is_point (mantissa text)) (from_first is_point (mantissa text)) ≡ true
-unfolding is_number is_mantissa
+mantissa_of : (text : List ℕ) → is_number_token text ≡ true → are_parts (before_first is_point (mantissa text)) (from_first is_point (mantissa text)) ≡ true
+unfolding is_number_token is_mantissa
 mantissa_of text h = (and_parts (is_mantissa (mantissa text)) (is_exponent (from_first is_mark text)) h).0
 
-mantissa_digits : (text : List ℕ) → is_number text ≡ true → (list_all is_ascii_digit (before_first is_point (mantissa text)) ≡ true) × (list_all is_ascii_digit (drop 1 (from_first is_point (mantissa text))) ≡ true)
+mantissa_digits : (text : List ℕ) → is_number_token text ≡ true → (list_all is_ascii_digit (before_first is_point (mantissa text)) ≡ true) × (list_all is_ascii_digit (drop 1 (from_first is_point (mantissa text))) ≡ true)
 mantissa_digits text h =
     parts_digits (before_first is_point (mantissa text)) (from_first is_point (mantissa text)) (mantissa_of text h)
 
-exponent_of : (text : List ℕ) → is_number text ≡ true → is_exponent (from_first is_mark text) ≡ true
-unfolding is_number
+exponent_of : (text : List ℕ) → is_number_token text ≡ true → is_exponent (from_first is_mark text) ≡ true
+unfolding is_number_token
 exponent_of text h = (and_parts (is_mantissa (mantissa text)) (is_exponent (from_first is_mark text)) h).1
 
-pub whole_are_digits : (text : List ℕ) (m n : ℕ) → is_number text ≡ true → m ≡ position_or_len is_mark text → n ≡ position_or_len is_point (take m text) → list_all is_ascii_digit (take n (take m text)) ≡ true
+pub whole_are_digits : (text : List ℕ) (m n : ℕ) → is_number_token text ≡ true → m ≡ position_or_len is_mark text → n ≡ position_or_len is_point (take m text) → list_all is_ascii_digit (take n (take m text)) ≡ true
 whole_are_digits text m n h mark point = rw (point, mark) ((mantissa_digits text h).0)
 
-pub behind_are_digits : (text b : List ℕ) (m n : ℕ) → is_number text ≡ true → m ≡ position_or_len is_mark text → n ≡ position_or_len is_point (take m text) → b ≡ drop 1 (drop n (take m text)) → list_all is_ascii_digit b ≡ true
+pub behind_are_digits : (text b : List ℕ) (m n : ℕ) → is_number_token text ≡ true → m ≡ position_or_len is_mark text → n ≡ position_or_len is_point (take m text) → b ≡ drop 1 (drop n (take m text)) → list_all is_ascii_digit b ≡ true
 behind_are_digits text b m n h mark point e = rw (e, point, mark) ((mantissa_digits text h).1)
 
-pub exponent_are_digits : (text x : List ℕ) (m : ℕ) → is_number text ≡ true → m ≡ position_or_len is_mark text → x ≡ drop 1 (drop m text) → list_all is_ascii_digit (without_leading_sign x) ≡ true
+pub exponent_are_digits : (text x : List ℕ) (m : ℕ) → is_number_token text ≡ true → m ≡ position_or_len is_mark text → x ≡ drop 1 (drop m text) → list_all is_ascii_digit (without_leading_sign x) ≡ true
 exponent_are_digits text x m h mark e = rw (e, mark) (exponent_digits (from_first is_mark text) (exponent_of text h))
 
 pub digit_at : (ds : List ℕ) (i : ℕ) → list_all is_ascii_digit ds ≡ true → i < length ds → is_ascii_digit (get_or ds i 0) ≡ true

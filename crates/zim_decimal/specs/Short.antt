@@ -26,8 +26,8 @@ point_and [] = []
 point_and (digit ∷ digits) = 46 ∷ (digit ∷ digits)
 
 -- a minus where the flag is set
-abbrev pub minus : Bool → List ℕ
-minus negative = if negative then (45 ∷ []) else []
+abbrev pub minus_text : Bool → List ℕ
+minus_text negative = if negative then (45 ∷ []) else []
 
 -- the digits of a whole number, at least one
 abbrev pub whole_text : ℕ → List ℕ
@@ -36,7 +36,7 @@ whole_text n = decimal n
 -- the decimal text of n/d, where d divides 10^15: a minus where the flag is set, the whole part, and a point and the
 -- decimals where there are some
 unfoldable pub decimal_text : Bool → ℕ → ℕ → List ℕ
-decimal_text negative n d = minus negative ++ (whole_text (n / d) ++ point_and (decimals 15 d (n % d)))
+decimal_text negative n d = minus_text negative ++ (whole_text (n / d) ++ point_and (decimals 15 d (n % d)))
 
 -- the decimal text of a short number
 unfoldable pub short_text : Rational → List ℕ

@@ -53,9 +53,9 @@ unfoldable pub is_mantissa : List ℕ → Bool
 is_mantissa text = are_parts (before_first is_point text) (from_first is_point text)
 
 -- the text is a number token
-unfoldable pub is_number : List ℕ → Bool
-is_number text = is_mantissa (mantissa text) && is_exponent (from_first is_mark text)
+unfoldable pub is_number_token : List ℕ → Bool
+is_number_token text = is_mantissa (mantissa text) && is_exponent (from_first is_mark text)
 
 -- the text is a number token, with a sign or none before it
 unfoldable pub is_field : List ℕ → Bool
-is_field text = is_number (without_leading_sign text)
+is_field text = is_number_token (without_leading_sign text)

@@ -20,7 +20,7 @@ const CAP: u128 = 1_000_000_000_000_000_000_000_000_000_000;
 /// and the value is q times ten to a power e. `Past` exactly where it isn't 0 and q passes 2^127 - 1,
 /// or e is below -38 or above 38, or the value's lowest terms pass 2^127 - 1.
 pub fn read_literal(text: &[u8]) -> Result<Fraction, Past>
-    requires { IsTrue (token.is_number text.now) }
+    requires { IsTrue (token.is_number_token text.now) }
     ensures { result ≡ literal_answer text.now }
 {
     let mark = mark_at(text);

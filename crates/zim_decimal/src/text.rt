@@ -34,7 +34,7 @@ fn write_parts(negative: bool, size: u128, denom: u128, to: &mut [u8; 64]) -> us
 // Puts a minus at the front of `to` where the flag is set, and answers the bytes put.
 fn put_sign(negative: bool, to: &mut [u8; 64]) -> usize
     ensures within { result ≤ 1 }
-    ensures text { take result to.new ≡ decimal.minus negative }
+    ensures text { take result to.new ≡ decimal.minus_text negative }
 {
     if negative {
         to[0] = b'-';

@@ -7,7 +7,7 @@ ghost use Rattle.zim_decimal.specs.Token as token;
 
 // Whether the text is a number token.
 pub(crate) fn is_number(text: &[u8]) -> bool
-    ensures { result ≡ token.is_number text.now }
+    ensures { result ≡ token.is_number_token text.now }
 {
     let mark = mark_at(text);
     is_mantissa(&text[..mark]) && is_exponent(&text[mark..])

@@ -6,7 +6,7 @@ use Rattle.zim_answer.specs.Answer.{Answer, ◌>>=◌}
 use Rattle.zim_answer.proofs.BindLemmas.{bind_gave, bind_failed}
 use Rattle.zim_fault.specs.declared.kinds.Kind.{Kind}
 use Rattle.zim_lex.specs.Pieces.{is_piece}
-use Rattle.zim_lex.specs.Cut.{joined, IsLongest, AreLongest, IsCut, IsStuck, stuck_at, longest, or_stuck, cut_up_to, cut}
+use Rattle.zim_lex.specs.Cut.{pieces_joined, IsLongest, AreLongest, IsCut, IsStuck, stuck_at, longest, or_stuck, cut_up_to, cut}
 use Rattle.zim_lex.proofs.PieceLemmas.{is_piece-nil}
 use Rattle.zim_lex.proofs.LongestLemmas.{IsLongestFront, fronts_at, none_at, longest_at, longest_none}
 
@@ -140,8 +140,8 @@ cut_is line pieces h = cut_up_to_is (length line) line pieces (omega arith) h
 pub is_cut : (pieces : List (List ℕ)) (line : List ℕ) → IsCut line pieces → cut line ≡ Ok pieces
 is_cut [] line whole = ap cut (sym whole.spelled) ∙ cut-nil
 is_cut (piece ∷ pieces) line whole =
-    let rest : IsCut (joined pieces []) pieces = record { spelled = refl; longest = whole.longest.1 } in
-    ap cut (sym whole.spelled) ∙ cut-piece piece (joined pieces []) whole.longest.0 ∙ rw (is_cut pieces (joined pieces []) rest) refl
+    let rest : IsCut (pieces_joined pieces []) pieces = record { spelled = refl; longest = whole.longest.1 } in
+    ap cut (sym whole.spelled) ∙ cut-piece piece (pieces_joined pieces []) whole.longest.0 ∙ rw (is_cut pieces (pieces_joined pieces []) rest) refl
 
 -- a line has at most one list of pieces
 pub one_cut : (line : List ℕ) (first second : List (List ℕ)) → IsCut line first → IsCut line second → first ≡ second
@@ -199,10 +199,10 @@ unfolding cut
 cut_fails line kind h = cut_up_to_fails (length line) line kind (omega arith) h
 
 -- and always there
-stuck_after : (pieces : List (List ℕ)) (b : ℕ) (bs : List ℕ) → AreLongest pieces (b ∷ bs) → ((n : ℕ) → is_piece (take n (b ∷ bs)) ≡ false) → cut (joined pieces (b ∷ bs)) ≡ Err (stuck_at b)
+stuck_after : (pieces : List (List ℕ)) (b : ℕ) (bs : List ℕ) → AreLongest pieces (b ∷ bs) → ((n : ℕ) → is_piece (take n (b ∷ bs)) ≡ false) → cut (pieces_joined pieces (b ∷ bs)) ≡ Err (stuck_at b)
 unfolding longest
 stuck_after [] b bs all none = cut-stuck (b ∷ bs) (omega arith) (longest_none (length (b ∷ bs)) (b ∷ bs) (λ m _ _. none m))
-stuck_after (piece ∷ pieces) b bs all none = cut-piece piece (joined pieces (b ∷ bs)) all.0 ∙ rw (stuck_after pieces b bs all.1 none) refl
+stuck_after (piece ∷ pieces) b bs all none = cut-piece piece (pieces_joined pieces (b ∷ bs)) all.0 ∙ rw (stuck_after pieces b bs all.1 none) refl
 
 pub is_stuck : (line : List ℕ) (kind : Kind) → IsStuck line kind → cut line ≡ Err kind
 is_stuck line kind stuck = ap cut (sym stuck.spelled) ∙ stuck_after stuck.pieces stuck.byte stuck.after stuck.longest stuck.begins_none ∙ ap Err stuck.met

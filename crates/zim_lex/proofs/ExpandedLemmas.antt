@@ -8,7 +8,7 @@ use Rattle.zim_answer.specs.Answer.{Answer, ◌>>=◌, goes}
 use Rattle.zim_answer.proofs.GoesLemmas.{goes-nil, goes-cons}
 use Rattle.zim_fault.specs.declared.faults.Fault as faults
 use Rattle.zim_fault.specs.declared.kinds.Kind.TheVariants.{LongFile}
-use Rattle.zim_gate.specs.Folder.{Files}
+use Rattle.zim_gate.specs.Folder.{HeldFiles}
 use Rattle.zim_lex.specs.declared.expanding.Expansion.{Expansion}
 use Rattle.zim_lex.specs.declared.expanding.Stop.{Stop}
 use Rattle.zim_lex.specs.declared.expanding.Stop.TheVariants.{Fault, Read, Memory}
@@ -17,72 +17,72 @@ use Rattle.zim_lex.specs.Includes.{included}
 use Rattle.zim_lex.specs.Expanded.{Refusal, Missing, At, Including, taken_as, taken, with_text, with_held, opened, includes}
 use Rattle.zim_lex.specs.Expanding.{IsTaken, IsTooLong, IsExpanded}
 use Rattle.zim_lex.specs.Lines.{lines_of, line_of_byte, placed_lines}
-use Rattle.zim_lex.specs.Opened.{Begins}
+use Rattle.zim_lex.specs.Opened.{ComeFirst}
 use Rattle.zim_lex.specs.Unread.{names_by, MayBeUnread}
 
 abbrev pub names : Answer Expansion Refusal → List (List ℕ)
 names answer = names_by (λ all. all.files) answer
 
-pub begins-refl : (front : List (List ℕ)) → Begins front front
+pub begins-refl : (front : List (List ℕ)) → ComeFirst front front
 begins-refl front = record { rest = []; whole = append-nil front }
 
-pub begins-more : (front more all : List (List ℕ)) → Begins (front ++ more) all → Begins front all
+pub begins-more : (front more all : List (List ℕ)) → ComeFirst (front ++ more) all → ComeFirst front all
 begins-more front more all b = record { rest = more ++ b.rest; whole = sym (append_assoc front more b.rest) ∙ b.whole }
 
-pub begins-trans : (a b c : List (List ℕ)) → Begins a b → Begins b c → Begins a c
+pub begins-trans : (a b c : List (List ℕ)) → ComeFirst a b → ComeFirst b c → ComeFirst a c
 begins-trans a b c one two =
     record { rest = one.rest ++ two.rest; whole = sym (append_assoc a one.rest two.rest) ∙ ap (λ (front : List (List ℕ)). front ++ two.rest) one.whole ∙ two.whole }
 
 -- what goes on with more files keeps those that are there
 abbrev pub Keeps : (Expansion → Answer Expansion Refusal) → Type 0
-Keeps next = (so_far : Expansion) → Begins so_far.files (names (next so_far))
+Keeps next = (so_far : Expansion) → ComeFirst so_far.files (names (next so_far))
 
-bind_keeps : (answer : Answer Expansion Refusal) (next : Expansion → Answer Expansion Refusal) (front : List (List ℕ)) → Begins front (names answer) → Keeps next → Begins front (names (answer >>= next))
+bind_keeps : (answer : Answer Expansion Refusal) (next : Expansion → Answer Expansion Refusal) (front : List (List ℕ)) → ComeFirst front (names answer) → Keeps next → ComeFirst front (names (answer >>= next))
 bind_keeps (Ok all) next front begins keeps = begins-trans front all.files (names (next all)) begins (keeps all)
 bind_keeps (Err (Missing name files)) next front begins keeps = begins
 bind_keeps (Err (At fault files)) next front begins keeps = begins
 
 -- an include line keeps the files
 abbrev pub KeepsAll : Including → Type 0
-KeepsAll include = (so_far : Expansion) (line : Line) (name : List ℕ) → Begins so_far.files (names (include so_far line name))
+KeepsAll include = (so_far : Expansion) (line : Line) (name : List ℕ) → ComeFirst so_far.files (names (include so_far line name))
 
 taken_keeps : (include : Including) → KeepsAll include → (line : Line) → Keeps (λ so_far. taken include so_far line)
 taken_keeps include keeps line so_far = at (included line.bytes) where
-  at : (found : Option (List ℕ)) → Begins so_far.files (names (taken_as include so_far line found))
+  at : (found : Option (List ℕ)) → ComeFirst so_far.files (names (taken_as include so_far line found))
   at None = begins-refl so_far.files
   at (Some name) = keeps so_far line name
 
 pub goes_keeps : (include : Including) → KeepsAll include → (lines : List Line) → Keeps (λ so_far. goes (taken include) so_far lines)
 goes_keeps include keeps [] so_far = rw goes-nil (begins-refl so_far.files)
 goes_keeps include keeps (line ∷ lines) so_far =
-    subst (λ (a : Answer Expansion Refusal). Begins so_far.files (names a)) (sym (goes-cons (taken include) so_far line lines))
+    subst (λ (a : Answer Expansion Refusal). ComeFirst so_far.files (names a)) (sym (goes-cons (taken include) so_far line lines))
     (bind_keeps (taken include so_far line) (λ next. goes (taken include) next lines) so_far.files (taken_keeps include keeps line so_far) (goes_keeps include keeps lines))
 
 -- a file that is read stays among the files
-text_keeps : (include : Including) → KeepsAll include → (so_far : Expansion) (name text : List ℕ) → Begins (so_far.files ++ name ∷ []) (names (with_text include so_far name text))
+text_keeps : (include : Including) → KeepsAll include → (so_far : Expansion) (name text : List ℕ) → ComeFirst (so_far.files ++ name ∷ []) (names (with_text include so_far name text))
 text_keeps include keeps so_far name text = at (nat_lt so_far.room (length text)) where
   next : Expansion
   next = record { lines = so_far.lines; files = so_far.files ++ name ∷ []; room = so_far.room - length text }
 
-  at : (long : Bool) → Begins (so_far.files ++ name ∷ [])
+  at : (long : Bool) → ComeFirst (so_far.files ++ name ∷ [])
       (names (if long then Err (At (record { place = record { file = length so_far.files; line = line_of_byte text so_far.room }; kind = LongFile }) (so_far.files ++ name ∷ []))
       else goes (taken include) (record { lines = so_far.lines; files = so_far.files ++ name ∷ []; room = so_far.room - length text }) (placed_lines (length so_far.files) 1 (lines_of text))))
   at true = begins-refl (so_far.files ++ name ∷ [])
   at false = goes_keeps include keeps (placed_lines (length so_far.files) 1 (lines_of text)) (record { lines = so_far.lines; files = so_far.files ++ name ∷ []; room = so_far.room - length text })
 
-opened_keeps : (held : Files) (include : Including) → KeepsAll include → (name : List ℕ) → Keeps (λ so_far. opened held include so_far name)
+opened_keeps : (held : HeldFiles) (include : Including) → KeepsAll include → (name : List ℕ) → Keeps (λ so_far. opened held include so_far name)
 opened_keeps held include keeps name so_far = at (finite.get held name) where
-  at : (text : Option (List ℕ)) → Begins so_far.files (names (with_held include so_far name text))
+  at : (text : Option (List ℕ)) → ComeFirst so_far.files (names (with_held include so_far name text))
   at None = begins-refl so_far.files
   at (Some text) = begins-more so_far.files (name ∷ []) (names (with_text include so_far name text)) (text_keeps include keeps so_far name text)
 
-pub includes_keep : (left : ℕ) (held : Files) → KeepsAll (includes left held)
+pub includes_keep : (left : ℕ) (held : HeldFiles) → KeepsAll (includes left held)
 unfolding includes
 includes_keep zero held so_far line name = begins-refl so_far.files
 includes_keep (suc left) held so_far line name = opened_keeps held (includes left held) (includes_keep left held) name so_far
 
 -- a file that is held is among those that are opened where it is opened; so it may be unread where a count rose, and one that isn't held is missing
-pub unread_here : (held : Files) (include : Including) (rose : Type 0) → KeepsAll include → (so_far : Expansion) (name : List ℕ) → (finite.get held name ≡ None) ⊎ rose → MayBeUnread (λ all. all.files) rose (opened held include so_far name) name
+pub unread_here : (held : HeldFiles) (include : Including) (rose : Type 0) → KeepsAll include → (so_far : Expansion) (name : List ℕ) → (finite.get held name ≡ None) ⊎ rose → MayBeUnread (λ all. all.files) rose (opened held include so_far name) name
 unread_here held include rose keeps so_far name why = at (finite.get held name) why where
   at : (text : Option (List ℕ)) → (text ≡ None) ⊎ rose → MayBeUnread (λ all. all.files) rose (with_held include so_far name text) name
   at None w = inl (record { files = so_far.files; met = refl })
@@ -140,7 +140,7 @@ same_expansion a b lines files room =
     ∙ ap (λ (x : ℕ). record { lines = b.lines; files = b.files; room = x }) room
 
 -- the lines of a file that was read are what is left of it
-pub file_taken : (held : Files) (include : Including) (old new : Expansion) (name text : List ℕ) (lines : List Line) → finite.get held name ≡ Some text → IsTaken old new name text lines → new.lines ≡ old.lines → new.files ≡ old.files ++ name ∷ []
+pub file_taken : (held : HeldFiles) (include : Including) (old new : Expansion) (name text : List ℕ) (lines : List Line) → finite.get held name ≡ Some text → IsTaken old new name text lines → new.lines ≡ old.lines → new.files ≡ old.files ++ name ∷ []
     → goes (taken include) new (map (moved (length old.files)) lines) ≡ opened held include old name
 file_taken held include old new name text lines is taken_is same_lines same_files =
     let short : nat_lt old.room (length text) ≡ false = grind (arith, nat_tests, taken_is.room) in
@@ -153,7 +153,7 @@ file_taken held include old new name text lines is taken_is same_lines same_file
     ∙ sym (ap (with_held include old name) is ∙ rw short refl)
 
 -- a file that is too long
-pub file_long : (held : Files) (include : Including) (old new : Expansion) (name text : List ℕ) (fault : faults.Fault) → finite.get held name ≡ Some text → IsTooLong old text fault → new.files ≡ old.files ++ name ∷ []
+pub file_long : (held : HeldFiles) (include : Including) (old new : Expansion) (name text : List ℕ) (fault : faults.Fault) → finite.get held name ≡ Some text → IsTooLong old text fault → new.files ≡ old.files ++ name ∷ []
     → opened held include old name ≡ Err (At fault new.files)
 file_long held include old new name text fault is long same_files =
     let past : nat_lt old.room (length text) ≡ true = grind (arith, nat_tests, long.long) in

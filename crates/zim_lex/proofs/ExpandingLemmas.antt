@@ -6,7 +6,7 @@ use Rattle.zim_answer.specs.Answer.{goes}
 use Rattle.zim_answer.proofs.GoesLemmas.{goes-nil}
 use Rattle.zim_fault.specs.declared.kinds.Kind.TheVariants.{IncludeDeep, LongFile}
 use Rattle.zim_gate.specs.Counts.{Rose}
-use Rattle.zim_gate.specs.Folder.{Files, FolderState}
+use Rattle.zim_gate.specs.Folder.{HeldFiles, FolderState, OnlyRead}
 use Rattle.zim_lex.specs.declared.expanding.Expansion.{Expansion}
 use Rattle.zim_lex.specs.declared.expanding.Stop.{Stop}
 use Rattle.zim_lex.specs.declared.expanding.Stop.TheVariants.{Fault, Read, Memory}
@@ -14,8 +14,7 @@ use Rattle.zim_lex.specs.declared.lines.Line.{Line}
 use Rattle.zim_lex.specs.Includes.{included}
 use Rattle.zim_lex.specs.Expanded.{At, taken_as, taken, opened, includes}
 use Rattle.zim_lex.specs.Expanding.{Grows, IsOpenedAs, OpensFile, IsExpanded, IfKnown, IfUnread, IfStopped, IsLoadingFault, Expands}
-use Rattle.zim_lex.specs.Opened.{Begins}
-use Rattle.zim_lex.specs.Reading.{OnlyRead}
+use Rattle.zim_lex.specs.Opened.{ComeFirst}
 use Rattle.zim_lex.specs.Unread.{MayBeUnread}
 use Rattle.zim_lex.proofs.ExpandedLemmas.{begins-refl, begins-more, includes_keep, unread_here, stops_at, goes_on, moved, file_taken, file_long}
 use Rattle.zim_lex.proofs.GrowsLemmas.{Growing, growing_done, grows_include}
@@ -23,17 +22,17 @@ use Rattle.zim_lex.proofs.IncludeLemmas.{include_has_bytes}
 use Rattle.zim_lex.proofs.ReadingLemmas.{OnlyRead-refl, rose_later}
 
 -- what begins the opened files
-pub begins-same : (front names : List (List ℕ)) → names ≡ front → Begins front names
-begins-same front names same = subst (Begins front) (sym same) (begins-refl front)
+pub begins-same : (front names : List (List ℕ)) → names ≡ front → ComeFirst front names
+begins-same front names same = subst (ComeFirst front) (sym same) (begins-refl front)
 
 pub known_from : (A B : Type 0) (s : Stop) (P Q : Type 0) → (P → Q) → IfKnown {A = A} (Err s) P → IfKnown {A = B} (Err s) Q
 known_from A B (Fault fault) P Q follows h = follows h
 known_from A B (Read name) P Q follows h = tt
 known_from A B Memory P Q follows h = tt
 
-pub opens_first : (front more all : List (List ℕ)) (r : Result ⊤ Stop) → IfKnown r (Begins (front ++ more) all) → IfKnown r (Begins front all)
+pub opens_first : (front more all : List (List ℕ)) (r : Result ⊤ Stop) → IfKnown r (ComeFirst (front ++ more) all) → IfKnown r (ComeFirst front all)
 opens_first front more all (Ok done) h = begins-more front more all h
-opens_first front more all (Err s) h = known_from ⊤ ⊤ s (Begins (front ++ more) all) (Begins front all) (begins-more front more all) h
+opens_first front more all (Err s) h = known_from ⊤ ⊤ s (ComeFirst (front ++ more) all) (ComeFirst front all) (begins-more front more all) h
 
 -- what reads and then reads only reads
 pub only_both : (a b c : FolderState) → OnlyRead a b → OnlyRead b c → OnlyRead a c
@@ -45,15 +44,15 @@ only_both a b c one two = record {
   faultless_below = two.faultless_below ∙ one.faultless_below;
 }
 
-no_untold : (held : Option Files) → IfNone held (Unit {0})
+no_untold : (held : Option HeldFiles) → IfNone held (Unit {0})
 no_untold None = tt
 no_untold (Some files) = tt
 
-each_told : (P : Files → Type 0) (held : Option Files) → ((files : Files) → P files) → IfSome held P
+each_told : (P : HeldFiles → Type 0) (held : Option HeldFiles) → ((files : HeldFiles) → P files) → IfSome held P
 each_told P None each = tt
 each_told P (Some files) each = each files
 
-deep_is : (held : Files) (old : Expansion) (line : Line) (name : List ℕ) (left : ℕ) → included line.bytes ≡ Some name → left ≡ 0 → taken (includes left held) old line ≡ Err (At (record { place = line.place; kind = IncludeDeep }) old.files)
+deep_is : (held : HeldFiles) (old : Expansion) (line : Line) (name : List ℕ) (left : ℕ) → included line.bytes ≡ Some name → left ≡ 0 → taken (includes left held) old line ≡ Err (At (record { place = line.place; kind = IncludeDeep }) old.files)
 unfolding includes
 deep_is held old line name left is none = ap (taken_as (includes left held) old line) is ∙ ap (λ (k : ℕ). includes k held old line name) none
 
@@ -68,7 +67,7 @@ too_deep state old line name left n is none place = record {
   fault = record { kind = inr refl; place = place };
 }
 
-include_is : (held : Files) (old : Expansion) (line : Line) (name : List ℕ) (left less : ℕ) → included line.bytes ≡ Some name → left ≡ suc less → opened held (includes less held) old name ≡ taken (includes left held) old line
+include_is : (held : HeldFiles) (old : Expansion) (line : Line) (name : List ℕ) (left less : ℕ) → included line.bytes ≡ Some name → left ≡ suc less → opened held (includes less held) old name ≡ taken (includes left held) old line
 unfolding includes
 include_is held old line name left less is more = sym (ap (taken_as (includes left held) old line) is ∙ ap (λ (k : ℕ). includes k held old line name) more)
 
@@ -83,7 +82,7 @@ includes_file before now old new line name left less result is more expands = re
   fault = expands.fault;
 }
   where
-    told : (held : Option Files) → IfSome held (λ files. IsExpanded (opened files (includes less files) old name) (Rose before.read_faults now.read_faults) new result)
+    told : (held : Option HeldFiles) → IfSome held (λ files. IsExpanded (opened files (includes less files) old name) (Rose before.read_faults now.read_faults) new result)
         → IfSome held (λ files. IsExpanded (taken (includes left files) old line) (Rose before.read_faults now.read_faults) new result)
     told None h = tt
     told (Some files) h = subst (λ a. IsExpanded a (Rose before.read_faults now.read_faults) new result) (include_is files old line name left less is more) h
@@ -98,7 +97,7 @@ OpensKnown old new name (Fault fault) = new.files ≡ old.files ++ name ∷ []
 OpensKnown old new name (Read unread) = Unit {0}
 OpensKnown old new name Memory = Unit {0}
 
-opened_as : (files : Files) (rose : Type 0) (old new : Expansion) (name : List ℕ) (left : ℕ) (s : Stop) → OpensKnown old new name s → IsOpenedAs (finite.get files name) rose old new name (Err s)
+opened_as : (files : HeldFiles) (rose : Type 0) (old new : Expansion) (name : List ℕ) (left : ℕ) (s : Stop) → OpensKnown old new name s → IsOpenedAs (finite.get files name) rose old new name (Err s)
     → IsExpanded (opened files (includes left files) old name) rose new (Err s)
 opened_as files rose old new name left (Fault fault) known (text, holds, long) = file_long files (includes left files) old new name text fault holds long known
 opened_as files rose old new name left (Read unread) known (same, why) =
@@ -112,7 +111,7 @@ fault_of old new name (Fault fault) known (kind, place) =
 fault_of old new name (Read unread) known h = tt
 fault_of old new name Memory known h = tt
 
-untold_of : (held : Option Files) (s : Stop) (rose : Type 0) → IfNone held (IfUnread {A = List Line} (Err s) rose) → IfNone held (IfUnread {A = ⊤} (Err s) rose)
+untold_of : (held : Option HeldFiles) (s : Stop) (rose : Type 0) → IfNone held (IfUnread {A = List Line} (Err s) rose) → IfNone held (IfUnread {A = ⊤} (Err s) rose)
 untold_of (Some files) s rose h = tt
 untold_of None (Fault fault) rose h = tt
 untold_of None (Read unread) rose h = h
@@ -133,7 +132,7 @@ file_stops before now old new name left s opens = record {
     known (Read unread) h = tt
     known Memory h = tt
 
-    told : (held : Option Files) → IfSome held (λ files. IsOpenedAs (finite.get files name) (Rose before.read_faults now.read_faults) old new name (Err s))
+    told : (held : Option HeldFiles) → IfSome held (λ files. IsOpenedAs (finite.get files name) (Rose before.read_faults now.read_faults) old new name (Err s))
         → IfSome held (λ files. IsExpanded (opened files (includes left files) old name) (Rose before.read_faults now.read_faults) new (Err s))
     told None h = tt
     told (Some files) h = opened_as files (Rose before.read_faults now.read_faults) old new name left s (known s opens.files) h
@@ -142,7 +141,7 @@ file_stops before now old new name left s opens = record {
 pub file_begins : (before : FolderState) (now : FolderState) (old new : Expansion) (name : List ℕ) (left file : ℕ) (lines : List Line) → OpensFile before now old new name (Ok lines) → file ≡ length old.files
     → IfSome before.held (λ held. goes (taken (includes left held)) new (map (moved file) lines) ≡ opened held (includes left held) old name)
 file_begins before now old new name left file lines opens is = at before.held opens.told where
-  at : (held : Option Files) → IfSome held (λ files. IsOpenedAs (finite.get files name) (Rose before.read_faults now.read_faults) old new name (Ok lines))
+  at : (held : Option HeldFiles) → IfSome held (λ files. IsOpenedAs (finite.get files name) (Rose before.read_faults now.read_faults) old new name (Ok lines))
       → IfSome held (λ files. goes (taken (includes left files)) new (map (moved file) lines) ≡ opened files (includes left files) old name)
   at None h = tt
   at (Some files) (text, holds, is_taken) =
@@ -153,14 +152,14 @@ pub file_goes_on : (start cur now : FolderState) (old mid new : Expansion) (name
     → IfSome start.held (λ held. goes (taken (includes left held)) mid (line ∷ lines) ≡ opened held (includes left held) old name) → Expands cur now (λ files. taken (includes left files) mid line) mid new n n (Ok done)
     → IfSome start.held (λ held. goes (taken (includes left held)) new lines ≡ opened held (includes left held) old name)
 file_goes_on start cur now old mid new name left n line lines done only so_far expands =
-    at start.held so_far (subst (λ (o : Option Files). IfSome o (λ files. taken (includes left files) mid line ≡ Ok new)) only.held expands.told)
+    at start.held so_far (subst (λ (o : Option HeldFiles). IfSome o (λ files. taken (includes left files) mid line ≡ Ok new)) only.held expands.told)
   where
-    at : (held : Option Files) → IfSome held (λ files. goes (taken (includes left files)) mid (line ∷ lines) ≡ opened files (includes left files) old name) → IfSome held (λ files. taken (includes left files) mid line ≡ Ok new)
+    at : (held : Option HeldFiles) → IfSome held (λ files. goes (taken (includes left files)) mid (line ∷ lines) ≡ opened files (includes left files) old name) → IfSome held (λ files. taken (includes left files) mid line ≡ Ok new)
         → IfSome held (λ files. goes (taken (includes left files)) new lines ≡ opened files (includes left files) old name)
     at None h k = tt
     at (Some files) h k = goes_on (includes left files) mid new line lines (opened files (includes left files) old name) h k
 
-rose_untold : (held : Option Files) (s : Stop) (one two : Type 0) → (one → two) → IfNone held (IfUnread {A = ⊤} (Err s) one) → IfNone held (IfUnread {A = ⊤} (Err s) two)
+rose_untold : (held : Option HeldFiles) (s : Stop) (one two : Type 0) → (one → two) → IfNone held (IfUnread {A = ⊤} (Err s) one) → IfNone held (IfUnread {A = ⊤} (Err s) two)
 rose_untold (Some files) s one two follows h = tt
 rose_untold None (Fault fault) one two follows h = tt
 rose_untold None (Read unread) one two follows h = follows h
@@ -172,13 +171,13 @@ pub file_stops_at : (start cur now : FolderState) (old mid new : Expansion) (nam
     → Expands start now (λ files. opened files (includes left files) old name) old new 1 0 (Err s)
 file_stops_at start cur now old mid new name left n line lines s only so_far expands = record {
   only = only_both start cur now only expands.only;
-  told = at start.held so_far (subst (λ (o : Option Files). IfSome o (λ files. IsExpanded (taken (includes left files) mid line) (Rose cur.read_faults now.read_faults) new (Err s))) only.held expands.told);
-  untold = subst (λ (o : Option Files). IfNone o (IfUnread {A = ⊤} (Err s) (Rose start.read_faults now.read_faults))) only.held (rose_untold cur.held s (Rose cur.read_faults now.read_faults) (Rose start.read_faults now.read_faults) (rose_later start.read_faults cur.read_faults now.read_faults only.read_faults) expands.untold);
+  told = at start.held so_far (subst (λ (o : Option HeldFiles). IfSome o (λ files. IsExpanded (taken (includes left files) mid line) (Rose cur.read_faults now.read_faults) new (Err s))) only.held expands.told);
+  untold = subst (λ (o : Option HeldFiles). IfNone o (IfUnread {A = ⊤} (Err s) (Rose start.read_faults now.read_faults))) only.held (rose_untold cur.held s (Rose cur.read_faults now.read_faults) (Rose start.read_faults now.read_faults) (rose_later start.read_faults cur.read_faults now.read_faults only.read_faults) expands.untold);
   grows = tt;
   fault = expands.fault;
 }
   where
-    at : (held : Option Files) → IfSome held (λ files. goes (taken (includes left files)) mid (line ∷ lines) ≡ opened files (includes left files) old name)
+    at : (held : Option HeldFiles) → IfSome held (λ files. goes (taken (includes left files)) mid (line ∷ lines) ≡ opened files (includes left files) old name)
         → IfSome held (λ files. IsExpanded (taken (includes left files) mid line) (Rose cur.read_faults now.read_faults) new (Err s)) → IfSome held (λ files. IsExpanded (opened files (includes left files) old name) (Rose start.read_faults now.read_faults) new (Err s))
     at None h k = tt
     at (Some files) h k =
@@ -196,6 +195,6 @@ file_done start now old new name left rest lines done only none so_far growing =
   fault = tt;
 }
   where
-    at : (held : Option Files) → IfSome held (λ files. goes (taken (includes left files)) new lines ≡ opened files (includes left files) old name) → IfSome held (λ files. opened files (includes left files) old name ≡ Ok new)
+    at : (held : Option HeldFiles) → IfSome held (λ files. goes (taken (includes left files)) new lines ≡ opened files (includes left files) old name) → IfSome held (λ files. opened files (includes left files) old name ≡ Ok new)
     at None h = tt
     at (Some files) h = sym h ∙ ap (goes (taken (includes left files)) new) none ∙ goes-nil (taken (includes left files)) new

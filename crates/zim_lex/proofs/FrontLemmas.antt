@@ -5,7 +5,9 @@ use Rattle.std.specs.List.{prefix_len}
 use Rattle.std.proofs.lemmas.Bool.Decides.{nat_tests}
 use Rattle.zim_lex.specs.Classes.{is_blank, begins_comment, begins_name, continues_name, is_quote}
 use Rattle.zim_lex.specs.Fronts.{IsLongestThat, NoneThat, IsFrontThat}
-use Rattle.zim_lex.specs.Numbers.{is_number, is_string}
+use Rattle.zim_decimal.specs.Token.{is_number_token}
+use Rattle.zim_lex.specs.Numbers.{is_string}
+use Rattle.zim_lex.proofs.NumberTokens.{number_is_token}
 use Rattle.zim_lex.specs.Pieces.{is_piece, is_sign}
 use Rattle.zim_lex.specs.Cut.{longest}
 use Rattle.zim_lex.specs.Signs.{longest_sign}
@@ -48,30 +50,30 @@ longest_string (b ∷ bs) found some k c n q front = longest_by is_string (b ∷
   each zero high = is_piece-nil
   each (suc m) high = string_pieces b (take m bs) k c n q
 
-number_or_sign : (b : ℕ) (bs : List ℕ) → is_blank b ≡ false → begins_comment b ≡ false → begins_name b ≡ false → is_quote b ≡ false
-    → (m : ℕ) → m ≤ length (b ∷ bs) → is_piece (take m (b ∷ bs)) ≡ (is_number (take m (b ∷ bs)) || is_sign (take m (b ∷ bs)))
-number_or_sign b bs k c n q zero high = is_piece-nil ∙ sym is_sign-nil
-number_or_sign b bs k c n q (suc m) high = other_pieces b (take m bs) k c n q
-
 neither : (x y : Bool) → x ≡ false → y ≡ false → (x || y) ≡ false
 neither x y h k = rw (h, k) refl
 
+number_or_sign : (b : ℕ) (bs : List ℕ) → is_blank b ≡ false → begins_comment b ≡ false → begins_name b ≡ false → is_quote b ≡ false
+    → (m : ℕ) → m ≤ length (b ∷ bs) → is_piece (take m (b ∷ bs)) ≡ (is_number_token (take m (b ∷ bs)) || is_sign (take m (b ∷ bs)))
+number_or_sign b bs k c n q zero high = is_piece-nil ∙ sym (neither (is_number_token []) (is_sign []) (number_is_token []) is_sign-nil)
+number_or_sign b bs k c n q (suc m) high = other_pieces b (take m bs) k c n q
+
 -- a number, which no sign begins as
 pub longest_number : (bytes : List ℕ) (n : ℕ) → 0 < length bytes → is_blank (first_byte bytes) ≡ false → begins_comment (first_byte bytes) ≡ false → begins_name (first_byte bytes) ≡ false → is_quote (first_byte bytes) ≡ false
-    → IsLongestThat is_number bytes n → longest bytes ≡ Some n
+    → IsLongestThat is_number_token bytes n → longest bytes ≡ Some n
 longest_number [] found some k c n q front = absurd (omega arith)
 longest_number (b ∷ bs) found some k c n q front =
     let begins : begins_number (take found (b ∷ bs)) ≡ true = number_begins (take found (b ∷ bs)) front.is in
-    longest_by (λ text. is_number text || is_sign text) (b ∷ bs) (Some found) (number_or_sign b bs k c n q) (record {
+    longest_by (λ text. is_number_token text || is_sign text) (b ∷ bs) (Some found) (number_or_sign b bs k c n q) (record {
       within = front.within;
       is = rw front.is refl;
       longer = λ m low high.
-          neither (is_number (take m (b ∷ bs))) (is_sign (take m (b ∷ bs))) (front.longer m low high) (no_sign_of_number (take m (b ∷ bs)) (begins_longer found m (b ∷ bs) begins (omega arith)));
+          neither (is_number_token (take m (b ∷ bs))) (is_sign (take m (b ∷ bs))) (front.longer m low high) (no_sign_of_number (take m (b ∷ bs)) (begins_longer found m (b ∷ bs) begins (omega arith)));
     })
 
 -- where no number begins
 pub longest_signs : (bytes : List ℕ) → 0 < length bytes → is_blank (first_byte bytes) ≡ false → begins_comment (first_byte bytes) ≡ false → begins_name (first_byte bytes) ≡ false → is_quote (first_byte bytes) ≡ false
-    → NoneThat is_number bytes → longest bytes ≡ longest_sign bytes
+    → NoneThat is_number_token bytes → longest bytes ≡ longest_sign bytes
 longest_signs [] some k c n q none = absurd (omega arith)
 longest_signs (b ∷ bs) some k c n q none =
     longest_by is_sign (b ∷ bs) (longest_sign (b ∷ bs)) (λ m high. number_or_sign b bs k c n q m high ∙ rw (none m high) refl) (sign_front (b ∷ bs))

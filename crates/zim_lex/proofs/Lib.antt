@@ -11,6 +11,7 @@ pub mod LinesLemmas
 pub mod LoadLemmas
 pub mod LongestLemmas
 pub mod NumberLemmas
+pub mod NumberTokens
 pub mod PieceLemmas
 pub mod ReadingLemmas
 pub mod SpansLemmas

@@ -5,7 +5,7 @@ use Rattle.std.proofs.lemmas.List.Elements.{All-nil}
 use Rattle.zim_answer.specs.Answer.{Answer, ◌>>=◌}
 use Rattle.zim_fault.specs.declared.faults.Fault as faults
 use Rattle.zim_gate.specs.Counts.{Rose}
-use Rattle.zim_gate.specs.Folder.{Files, FolderState}
+use Rattle.zim_gate.specs.Folder.{HeldFiles, FolderState}
 use Rattle.zim_lex.specs.declared.expanding.Expansion.{Expansion}
 use Rattle.zim_lex.specs.declared.expanding.Stop.{Stop}
 use Rattle.zim_lex.specs.declared.expanding.Stop.TheVariants as stops
@@ -14,7 +14,7 @@ use Rattle.zim_lex.specs.declared.lines.Loaded.{Loaded}
 use Rattle.zim_lex.specs.Expanded.{Refusal, Missing, At, includes, opened, nothing, model_in}
 use Rattle.zim_lex.specs.Expanding.{Expands, IfKnown}
 use Rattle.zim_lex.specs.Loading.{Loads, load_fault}
-use Rattle.zim_lex.specs.Opened.{Begins}
+use Rattle.zim_lex.specs.Opened.{ComeFirst}
 use Rattle.zim_lex.specs.Unread.{MayBeUnread}
 
 -- the lines and files of a whole expansion
@@ -22,14 +22,14 @@ abbrev pub as_loaded : Expansion → Loaded
 as_loaded all = record { lines = all.lines; files = all.files }
 
 -- what the model's expansion is
-abbrev pub expansion : List ℕ → Files → Answer Expansion Refusal
+abbrev pub expansion : List ℕ → HeldFiles → Answer Expansion Refusal
 expansion name files = opened files (includes 15 files) nothing name
 
-model_is : (files : Files) (name : List ℕ) → model_in files name ≡ (expansion name files >>= λ all. Ok (as_loaded all))
+model_is : (files : HeldFiles) (name : List ℕ) → model_in files name ≡ (expansion name files >>= λ all. Ok (as_loaded all))
 unfolding model_in
 model_is files name = refl
 
-if_some : (P Q : Files → Type 0) (held : Option Files) → ((files : Files) → P files → Q files) → IfSome held P → IfSome held Q
+if_some : (P Q : HeldFiles → Type 0) (held : Option HeldFiles) → ((files : HeldFiles) → P files → Q files) → IfSome held P → IfSome held Q
 if_some P Q None follows h = tt
 if_some P Q (Some files) follows h = follows files h
 
@@ -40,7 +40,7 @@ unread_loaded rose (Err (Missing other files)) name (inr both) = inr both
 unread_loaded rose (Err (At fault files)) name (inr both) = inr both
 
 -- all is loaded
-pub loads_all : (before now : FolderState) (name : List ℕ) (new : Expansion) (done : ⊤) → Expands before now (expansion name) nothing new 1 0 (Ok done) → Begins (name ∷ []) new.files → now.begun ≡ None → Loads before now name (Ok (as_loaded new))
+pub loads_all : (before now : FolderState) (name : List ℕ) (new : Expansion) (done : ⊤) → Expands before now (expansion name) nothing new 1 0 (Ok done) → ComeFirst (name ∷ []) new.files → now.begun ≡ None → Loads before now name (Ok (as_loaded new))
 loads_all before now name new done expands opened begun = record {
   tells = record {
     told = if_some (λ files. expansion name files ≡ Ok new) (λ files. model_in files name ≡ Ok (as_loaded new)) before.held
@@ -58,7 +58,7 @@ loads_all before now name new done expands opened begun = record {
 }
 
 -- a fault is met
-loads_fault : (before now : FolderState) (name : List ℕ) (new : Expansion) (fault : faults.Fault) → Expands before now (expansion name) nothing new 1 0 (Err (stops.Fault fault)) → Begins (name ∷ []) new.files → now.begun ≡ None → Loads before now name (Err (loading.Fault fault new.files))
+loads_fault : (before now : FolderState) (name : List ℕ) (new : Expansion) (fault : faults.Fault) → Expands before now (expansion name) nothing new 1 0 (Err (stops.Fault fault)) → ComeFirst (name ∷ []) new.files → now.begun ≡ None → Loads before now name (Err (loading.Fault fault new.files))
 loads_fault before now name new fault expands opened begun = record {
   tells = record {
     told = if_some (λ files. expansion name files ≡ Err (At fault new.files)) (λ files. model_in files name ≡ Err (At fault new.files)) before.held
@@ -100,7 +100,7 @@ loads_nothing before now name new expands begun = record {
 }
 
 -- a stop of any kind
-pub loads_stop : (before now : FolderState) (name : List ℕ) (new : Expansion) (stop : Stop) → Expands before now (expansion name) nothing new 1 0 (Err stop) → IfKnown {A = ⊤} (Err stop) (Begins (name ∷ []) new.files) → now.begun ≡ None → Loads before now name (Err (load_fault stop new.files))
+pub loads_stop : (before now : FolderState) (name : List ℕ) (new : Expansion) (stop : Stop) → Expands before now (expansion name) nothing new 1 0 (Err stop) → IfKnown {A = ⊤} (Err stop) (ComeFirst (name ∷ []) new.files) → now.begun ≡ None → Loads before now name (Err (load_fault stop new.files))
 loads_stop before now name new (stops.Fault fault) expands opened begun = loads_fault before now name new fault expands opened begun
 loads_stop before now name new (stops.Read unread) expands opened begun = loads_unread before now name unread new expands begun
 loads_stop before now name new stops.Memory expands opened begun = loads_nothing before now name new expands begun

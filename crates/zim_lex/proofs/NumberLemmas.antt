@@ -5,7 +5,7 @@ use Rattle.std.specs.List.{prefix_len}
 use Rattle.std.proofs.lemmas.List.{drop-drop}
 use Rattle.zim_lex.specs.Classes.{is_digit, begins_fraction, begins_exponent, begins_signed, first_is}
 use Rattle.zim_lex.specs.Fronts.{IsLongestThat, NoneThat, IsFrontThat}
-use Rattle.zim_lex.specs.Numbers.{is_nothing, digits_then, some_digits_then, is_signed_digits, is_exponent, is_fraction, ends_number, is_number}
+use Rattle.zim_lex.specs.Numbers.{is_nothing, digits_then, some_digits_then, is_signed_digits, is_exponent_by_bytes, is_fraction, ends_number, is_number_by_bytes}
 use Rattle.zim_lex.proofs.ClassLemmas.{digit_begins_no_fraction, fraction_begins_no_exponent}
 
 -- one byte more at the front
@@ -34,7 +34,7 @@ same_front p q bytes (suc n) each some front = record { within = front.within; i
   longer (suc m) low high = each m high ∙ front.longer (suc m) low high
 
 -- two tests that say the same of each front
-same_fronts : (p q : List ℕ → Bool) (bytes : List ℕ) (found : Option ℕ) → ((m : ℕ) → m ≤ length bytes → q (take m bytes) ≡ p (take m bytes)) → IsFrontThat p bytes found → IsFrontThat q bytes found
+pub same_fronts : (p q : List ℕ → Bool) (bytes : List ℕ) (found : Option ℕ) → ((m : ℕ) → m ≤ length bytes → q (take m bytes) ≡ p (take m bytes)) → IsFrontThat p bytes found → IsFrontThat q bytes found
 same_fronts p q bytes (Some n) each front = record { within = front.within; is = each n front.within ∙ front.is; longer = λ m low high. each m high ∙ front.longer m low high }
 same_fronts p q bytes None each none = λ m high. each m high ∙ none m high
 
@@ -128,34 +128,34 @@ no_signed_front (b ∷ bs) none = at (begins_signed b) refl none where
       ]
 
 -- an exponent, or nothing
-pub exponent_front : (bytes : List ℕ) (n : ℕ) → first_is begins_exponent bytes ≡ true → IsLongestThat is_signed_digits (drop 1 bytes) n → IsLongestThat is_exponent bytes (1 + n)
+pub exponent_front : (bytes : List ℕ) (n : ℕ) → first_is begins_exponent bytes ≡ true → IsLongestThat is_signed_digits (drop 1 bytes) n → IsLongestThat is_exponent_by_bytes bytes (1 + n)
 exponent_front [] n h front = cc
 exponent_front (b ∷ bs) n h front =
     let total : suc n ≡ 1 + n = omega arith in
-    subst (IsLongestThat is_exponent (b ∷ bs)) total (lift_one is_signed_digits is_exponent b bs n (λ xs. rw h refl) front)
+    subst (IsLongestThat is_exponent_by_bytes (b ∷ bs)) total (lift_one is_signed_digits is_exponent_by_bytes b bs n (λ xs. rw h refl) front)
 
-pub no_exponent_digits : (bytes : List ℕ) → first_is begins_exponent bytes ≡ true → NoneThat is_signed_digits (drop 1 bytes) → IsLongestThat is_exponent bytes 0
+pub no_exponent_digits : (bytes : List ℕ) → first_is begins_exponent bytes ≡ true → NoneThat is_signed_digits (drop 1 bytes) → IsLongestThat is_exponent_by_bytes bytes 0
 no_exponent_digits [] h none = cc
-no_exponent_digits (b ∷ bs) h none = lift_nothing is_signed_digits is_exponent b bs (λ xs. rw h refl) refl none
+no_exponent_digits (b ∷ bs) h none = lift_nothing is_signed_digits is_exponent_by_bytes b bs (λ xs. rw h refl) refl none
 
-pub no_exponent : (bytes : List ℕ) → first_is begins_exponent bytes ≡ false → IsLongestThat is_exponent bytes 0
+pub no_exponent : (bytes : List ℕ) → first_is begins_exponent bytes ≡ false → IsLongestThat is_exponent_by_bytes bytes 0
 no_exponent [] h = record { within = omega arith; is = refl; longer = λ m low high. absurd (omega arith) }
-no_exponent (b ∷ bs) h = lift_nothing (λ xs. false) is_exponent b bs (λ xs. rw h refl) refl (λ m high. refl)
+no_exponent (b ∷ bs) h = lift_nothing (λ xs. false) is_exponent_by_bytes b bs (λ xs. rw h refl) refl (λ m high. refl)
 
 -- a point, digits and maybe an exponent
-pub fraction_front : (bytes : List ℕ) (n t : ℕ) → first_is begins_fraction bytes ≡ true → 0 < prefix_len is_digit (drop 1 bytes) → IsLongestThat is_exponent (drop (1 + prefix_len is_digit (drop 1 bytes)) bytes) n
+pub fraction_front : (bytes : List ℕ) (n t : ℕ) → first_is begins_fraction bytes ≡ true → 0 < prefix_len is_digit (drop 1 bytes) → IsLongestThat is_exponent_by_bytes (drop (1 + prefix_len is_digit (drop 1 bytes)) bytes) n
     → t ≡ 1 + prefix_len is_digit (drop 1 bytes) + n → IsLongestThat is_fraction bytes t
 fraction_front [] n t h some front e = cc
 fraction_front (b ∷ bs) n t h some front e =
     let one : 1 + prefix_len is_digit bs ≡ suc (prefix_len is_digit bs) = omega arith in
-    let rest : IsLongestThat is_exponent (drop (prefix_len is_digit bs) bs) n = subst (λ (j : ℕ). IsLongestThat is_exponent (drop j (b ∷ bs)) n) one front in
+    let rest : IsLongestThat is_exponent_by_bytes (drop (prefix_len is_digit bs) bs) n = subst (λ (j : ℕ). IsLongestThat is_exponent_by_bytes (drop j (b ∷ bs)) n) one front in
     let total : suc (prefix_len is_digit bs + n) ≡ t = omega (arith, e) in
     subst (IsLongestThat is_fraction (b ∷ bs)) total
-    (lift_one (some_digits_then is_exponent) is_fraction b bs (prefix_len is_digit bs + n) (λ xs. rw h refl) (some_digits_front is_exponent bs n (prefix_len is_digit bs + n) some rest refl))
+    (lift_one (some_digits_then is_exponent_by_bytes) is_fraction b bs (prefix_len is_digit bs + n) (λ xs. rw h refl) (some_digits_front is_exponent_by_bytes bs n (prefix_len is_digit bs + n) some rest refl))
 
 pub no_fraction_digits : (bytes : List ℕ) → first_is begins_fraction bytes ≡ true → prefix_len is_digit (drop 1 bytes) ≡ 0 → NoneThat is_fraction bytes
 no_fraction_digits [] h none = cc
-no_fraction_digits (b ∷ bs) h none = lift_none (some_digits_then is_exponent) is_fraction b bs (λ xs. rw h refl) refl (no_digits_front is_exponent bs none)
+no_fraction_digits (b ∷ bs) h none = lift_none (some_digits_then is_exponent_by_bytes) is_fraction b bs (λ xs. rw h refl) refl (no_digits_front is_exponent_by_bytes bs none)
 
 pub no_fraction : (bytes : List ℕ) → first_is begins_fraction bytes ≡ false → NoneThat is_fraction bytes
 no_fraction [] h m high = ap is_fraction (take_nothing m)
@@ -166,7 +166,7 @@ ends_with_fraction : (bytes : List ℕ) (n : ℕ) → IsLongestThat is_fraction 
 ends_with_fraction [] n front = let some : is_fraction [] ≡ true = ap is_fraction (sym (take_nothing n)) ∙ front.is in cc
 ends_with_fraction (b ∷ bs) zero front = let some : is_fraction [] ≡ true = front.is in cc
 ends_with_fraction (b ∷ bs) (suc n) front =
-    let point : begins_fraction b ≡ true = first (begins_fraction b) (some_digits_then is_exponent (take n bs)) front.is in
+    let point : begins_fraction b ≡ true = first (begins_fraction b) (some_digits_then is_exponent_by_bytes (take n bs)) front.is in
     let mark : begins_exponent b ≡ false = fraction_begins_no_exponent b point in
     same_front is_fraction ends_number (b ∷ bs) (suc n) (λ m high. rw (mark, point) refl) (omega arith) front
   where
@@ -182,28 +182,28 @@ none_or : (x y : Bool) → x ≡ false → (x || y) ≡ y
 none_or true y h = cc
 none_or false y h = refl
 
-ends_with_exponent : (bytes : List ℕ) (n : ℕ) → NoneThat is_fraction bytes → IsLongestThat is_exponent bytes n → IsLongestThat ends_number bytes n
-ends_with_exponent bytes n none front = same_fronts is_exponent ends_number bytes (Some n) (λ m high. or_none (is_exponent (take m bytes)) (is_fraction (take m bytes)) (none m high)) front
+ends_with_exponent : (bytes : List ℕ) (n : ℕ) → NoneThat is_fraction bytes → IsLongestThat is_exponent_by_bytes bytes n → IsLongestThat ends_number bytes n
+ends_with_exponent bytes n none front = same_fronts is_exponent_by_bytes ends_number bytes (Some n) (λ m high. or_none (is_exponent_by_bytes (take m bytes)) (is_fraction (take m bytes)) (none m high)) front
 
 -- a number without first digits
-pub number_fraction : (bytes : List ℕ) (found : Option ℕ) → prefix_len is_digit bytes ≡ 0 → IsFrontThat is_fraction bytes found → IsFrontThat is_number bytes found
+pub number_fraction : (bytes : List ℕ) (found : Option ℕ) → prefix_len is_digit bytes ≡ 0 → IsFrontThat is_fraction bytes found → IsFrontThat is_number_by_bytes bytes found
 number_fraction bytes found none =
-    same_fronts is_fraction is_number bytes found (λ m high. none_or (some_digits_then ends_number (take m bytes)) (is_fraction (take m bytes)) (no_digits_front ends_number bytes none m high))
+    same_fronts is_fraction is_number_by_bytes bytes found (λ m high. none_or (some_digits_then ends_number (take m bytes)) (is_fraction (take m bytes)) (no_digits_front ends_number bytes none m high))
 
 -- a number with first digits
-number_ended : (bytes : List ℕ) (n t : ℕ) → 0 < prefix_len is_digit bytes → IsLongestThat ends_number (drop (prefix_len is_digit bytes) bytes) n → t ≡ prefix_len is_digit bytes + n → IsLongestThat is_number bytes t
+number_ended : (bytes : List ℕ) (n t : ℕ) → 0 < prefix_len is_digit bytes → IsLongestThat ends_number (drop (prefix_len is_digit bytes) bytes) n → t ≡ prefix_len is_digit bytes + n → IsLongestThat is_number_by_bytes bytes t
 number_ended [] n t some front e = absurd (omega arith)
 number_ended (b ∷ bs) n t some front e =
     let digit : is_digit b ≡ true = first_digit b bs (is_digit b) some in
     let none : NoneThat is_fraction (b ∷ bs) = no_fraction (b ∷ bs) (digit_begins_no_fraction b digit) in
-    same_fronts (some_digits_then ends_number) is_number (b ∷ bs) (Some t) (λ m high. or_none (some_digits_then ends_number (take m (b ∷ bs))) (is_fraction (take m (b ∷ bs))) (none m high))
+    same_fronts (some_digits_then ends_number) is_number_by_bytes (b ∷ bs) (Some t) (λ m high. or_none (some_digits_then ends_number (take m (b ∷ bs))) (is_fraction (take m (b ∷ bs))) (none m high))
     (some_digits_front ends_number (b ∷ bs) n t some front e)
 
-pub number_with_fraction : (bytes : List ℕ) (n t : ℕ) → 0 < prefix_len is_digit bytes → IsLongestThat is_fraction (drop (prefix_len is_digit bytes) bytes) n → t ≡ prefix_len is_digit bytes + n → IsLongestThat is_number bytes t
+pub number_with_fraction : (bytes : List ℕ) (n t : ℕ) → 0 < prefix_len is_digit bytes → IsLongestThat is_fraction (drop (prefix_len is_digit bytes) bytes) n → t ≡ prefix_len is_digit bytes + n → IsLongestThat is_number_by_bytes bytes t
 number_with_fraction bytes n t some front e = number_ended bytes n t some (ends_with_fraction (drop (prefix_len is_digit bytes) bytes) n front) e
 
-pub number_with_exponent : (bytes : List ℕ) (n t : ℕ) → 0 < prefix_len is_digit bytes → NoneThat is_fraction (drop (prefix_len is_digit bytes) bytes) → IsLongestThat is_exponent (drop (prefix_len is_digit bytes) bytes) n → t ≡ prefix_len is_digit bytes + n
-    → IsLongestThat is_number bytes t
+pub number_with_exponent : (bytes : List ℕ) (n t : ℕ) → 0 < prefix_len is_digit bytes → NoneThat is_fraction (drop (prefix_len is_digit bytes) bytes) → IsLongestThat is_exponent_by_bytes (drop (prefix_len is_digit bytes) bytes) n → t ≡ prefix_len is_digit bytes + n
+    → IsLongestThat is_number_by_bytes bytes t
 number_with_exponent bytes n t some none front e = number_ended bytes n t some (ends_with_exponent (drop (prefix_len is_digit bytes) bytes) n none front) e
 
 -- a first byte is there where it passes
@@ -233,19 +233,19 @@ after_both : (a b : List ℕ) (k : ℕ) (bytes : List ℕ) → a ≡ drop 1 byte
 after_both a b k bytes is_a is_b =
     is_b ∙ ap (drop k) is_a ∙ drop-drop k 1 bytes
 
-pub fraction_found : (bytes decimals rest : List ℕ) (k n : ℕ) → first_is begins_fraction bytes ≡ true → decimals ≡ drop 1 bytes → k ≡ prefix_len is_digit decimals → 0 < k → rest ≡ drop k decimals → IsLongestThat is_exponent rest n
+pub fraction_found : (bytes decimals rest : List ℕ) (k n : ℕ) → first_is begins_fraction bytes ≡ true → decimals ≡ drop 1 bytes → k ≡ prefix_len is_digit decimals → 0 < k → rest ≡ drop k decimals → IsLongestThat is_exponent_by_bytes rest n
     → IsLongestThat is_fraction bytes (1 + k + n)
 fraction_found bytes decimals rest k n h is_decimals is_k some is_rest front =
     let digits : k ≡ prefix_len is_digit (drop 1 bytes) = is_k ∙ ap (prefix_len is_digit) is_decimals in
     let total : 1 + k + n ≡ 1 + prefix_len is_digit (drop 1 bytes) + n = ap (λ (j : ℕ). 1 + j + n) digits in
     let left : rest ≡ drop (1 + prefix_len is_digit (drop 1 bytes)) bytes = after_both decimals rest k bytes is_decimals is_rest ∙ ap (λ (j : ℕ). drop (1 + j) bytes) digits in
-    fraction_front bytes n (1 + k + n) h (subst (λ (j : ℕ). 0 < j) digits some) (subst (λ (r : List ℕ). IsLongestThat is_exponent r n) left front) total
+    fraction_front bytes n (1 + k + n) h (subst (λ (j : ℕ). 0 < j) digits some) (subst (λ (r : List ℕ). IsLongestThat is_exponent_by_bytes r n) left front) total
 
-pub number_fraction_found : (bytes rest : List ℕ) (k n : ℕ) → k ≡ prefix_len is_digit bytes → 0 < k → rest ≡ drop k bytes → IsLongestThat is_fraction rest n → IsLongestThat is_number bytes (k + n)
+pub number_fraction_found : (bytes rest : List ℕ) (k n : ℕ) → k ≡ prefix_len is_digit bytes → 0 < k → rest ≡ drop k bytes → IsLongestThat is_fraction rest n → IsLongestThat is_number_by_bytes bytes (k + n)
 number_fraction_found bytes rest k n is_k some is_rest front =
     number_with_fraction bytes n (k + n) (subst (λ (j : ℕ). 0 < j) is_k some) (subst (λ (r : List ℕ). IsLongestThat is_fraction r n) (is_rest ∙ ap (λ (j : ℕ). drop j bytes) is_k) front) (ap (λ (j : ℕ). j + n) is_k)
 
-pub number_exponent_found : (bytes rest : List ℕ) (k n : ℕ) → k ≡ prefix_len is_digit bytes → 0 < k → rest ≡ drop k bytes → NoneThat is_fraction rest → IsLongestThat is_exponent rest n → IsLongestThat is_number bytes (k + n)
+pub number_exponent_found : (bytes rest : List ℕ) (k n : ℕ) → k ≡ prefix_len is_digit bytes → 0 < k → rest ≡ drop k bytes → NoneThat is_fraction rest → IsLongestThat is_exponent_by_bytes rest n → IsLongestThat is_number_by_bytes bytes (k + n)
 number_exponent_found bytes rest k n is_k some is_rest none front =
     let left : rest ≡ drop (prefix_len is_digit bytes) bytes = is_rest ∙ ap (λ (j : ℕ). drop j bytes) is_k in
-    number_with_exponent bytes n (k + n) (subst (λ (j : ℕ). 0 < j) is_k some) (subst (NoneThat is_fraction) left none) (subst (λ (r : List ℕ). IsLongestThat is_exponent r n) left front) (ap (λ (j : ℕ). j + n) is_k)
+    number_with_exponent bytes n (k + n) (subst (λ (j : ℕ). 0 < j) is_k some) (subst (NoneThat is_fraction) left none) (subst (λ (r : List ℕ). IsLongestThat is_exponent_by_bytes r n) left front) (ap (λ (j : ℕ). j + n) is_k)

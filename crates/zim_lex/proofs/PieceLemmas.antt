@@ -10,7 +10,9 @@ use Rattle.zim_fault.specs.Words.{spelling_of_word}
 use Rattle.zim_fault.specs.Signs.{spelling_of_sign}
 use Rattle.zim_lex.specs.Spelled.{word_in, sign_in}
 use Rattle.zim_lex.specs.Classes.{is_blank, begins_comment, is_digit, begins_name, continues_name, begins_fraction, is_quote, starts_number, first_is}
-use Rattle.zim_lex.specs.Numbers.{digits_then, some_digits_then, is_exponent, is_number, is_string}
+use Rattle.zim_decimal.specs.Token.{is_number_token, is_mantissa}
+use Rattle.zim_lex.specs.Numbers.{digits_then, some_digits_then, is_exponent_by_bytes, is_number_by_bytes, is_string}
+use Rattle.zim_lex.proofs.NumberTokens.{number_is_token}
 use Rattle.zim_lex.specs.Pieces.{is_begun, is_identifier, is_word, is_name, is_sign, is_piece}
 use Rattle.zim_lex.proofs.SpelledLemmas.{of_words, of_signs}
 use Rattle.zim_lex.proofs.ClassLemmas.{is_other, blank_begins_no_comment, blank_begins_no_name, blank_starts_no_number, blank_is_no_quote, blank_is_no_other, name_starts_no_number, name_is_no_quote, quote_starts_no_number}
@@ -40,9 +42,9 @@ pub name_or_word : (text : List ℕ) → (is_name text || is_word text) ≡ is_i
 name_or_word text = joins (is_identifier text) (is_word text) (word_is_identifier text)
 
 -- a number's first byte is a digit or a point
-pub number_starts : (b : ℕ) (bs : List ℕ) → starts_number b ≡ false → is_number (b ∷ bs) ≡ false
-number_starts b bs h = at (is_digit b) (begins_fraction b) refl refl h where
-  at : (d f : Bool) → is_digit b ≡ d → begins_fraction b ≡ f → (d || f) ≡ false → is_number (b ∷ bs) ≡ false
+pub number_starts : (b : ℕ) (bs : List ℕ) → starts_number b ≡ false → is_number_token (b ∷ bs) ≡ false
+number_starts b bs h = number_is_token (b ∷ bs) ∙ at (is_digit b) (begins_fraction b) refl refl h where
+  at : (d f : Bool) → is_digit b ≡ d → begins_fraction b ≡ f → (d || f) ≡ false → is_number_by_bytes (b ∷ bs) ≡ false
   at true f e g k = cc
   at false true e g k = cc
   at false false e g k = rw (e, g) refl
@@ -53,10 +55,10 @@ regroup false true n w d q s i h = refl
 regroup false false n w d q s i h = ap (λ b. ((b || d) || q) || s) h
 
 -- the classes of a piece that begins with b
-pub is_piece-cons : (b : ℕ) (bs : List ℕ) → is_piece (b ∷ bs) ≡ (((((is_begun is_blank is_blank (b ∷ bs) || begins_comment b) || is_identifier (b ∷ bs)) || is_number (b ∷ bs)) || is_string (b ∷ bs)) || is_sign (b ∷ bs))
+pub is_piece-cons : (b : ℕ) (bs : List ℕ) → is_piece (b ∷ bs) ≡ (((((is_begun is_blank is_blank (b ∷ bs) || begins_comment b) || is_identifier (b ∷ bs)) || is_number_token (b ∷ bs)) || is_string (b ∷ bs)) || is_sign (b ∷ bs))
 unfolding is_piece
 is_piece-cons b bs =
-    regroup (is_begun is_blank is_blank (b ∷ bs)) (begins_comment b) (is_name (b ∷ bs)) (is_word (b ∷ bs)) (is_number (b ∷ bs)) (is_string (b ∷ bs)) (is_sign (b ∷ bs)) (is_identifier (b ∷ bs)) (name_or_word (b ∷ bs))
+    regroup (is_begun is_blank is_blank (b ∷ bs)) (begins_comment b) (is_name (b ∷ bs)) (is_word (b ∷ bs)) (is_number_token (b ∷ bs)) (is_string (b ∷ bs)) (is_sign (b ∷ bs)) (is_identifier (b ∷ bs)) (name_or_word (b ∷ bs))
 
 not_true : (x : Bool) → (x ≡ true → ⊥) → x ≡ false
 not_true true h = absurd (h refl)
@@ -109,10 +111,10 @@ string_pieces b bs k c n h =
     is_piece-cons b bs ∙ rw (k, c, n, number_starts b bs (quote_starts_no_number b h), no_sign b bs other) (only_last (is_string (b ∷ bs)))
 
 -- numbers and signs
-pub other_pieces : (b : ℕ) (bs : List ℕ) → is_blank b ≡ false → begins_comment b ≡ false → begins_name b ≡ false → is_quote b ≡ false → is_piece (b ∷ bs) ≡ (is_number (b ∷ bs) || is_sign (b ∷ bs))
+pub other_pieces : (b : ℕ) (bs : List ℕ) → is_blank b ≡ false → begins_comment b ≡ false → begins_name b ≡ false → is_quote b ≡ false → is_piece (b ∷ bs) ≡ (is_number_token (b ∷ bs) || is_sign (b ∷ bs))
 other_pieces b bs k c n q =
     is_piece-cons b bs
-    ∙ no_others (is_begun is_blank is_blank (b ∷ bs)) (begins_comment b) (is_identifier (b ∷ bs)) (is_string (b ∷ bs)) (rw k refl) c (rw n refl) (rw q refl) (is_number (b ∷ bs)) (is_sign (b ∷ bs))
+    ∙ no_others (is_begun is_blank is_blank (b ∷ bs)) (begins_comment b) (is_identifier (b ∷ bs)) (is_string (b ∷ bs)) (rw k refl) c (rw n refl) (rw q refl) (is_number_token (b ∷ bs)) (is_sign (b ∷ bs))
 
 -- a text that begins as a number does: with a digit, or with a point and a digit
 abbrev pub begins_number : List ℕ → Bool
@@ -148,7 +150,7 @@ no_long_sign a b c more = not_true (is_sign (a ∷ b ∷ c ∷ more)) (λ e. let
 
 -- nothing is no piece
 pub is_piece-nil : is_piece [] ≡ false
-unfolding is_piece word_in sign_in
+unfolding is_piece word_in sign_in is_number_token is_mantissa
 is_piece-nil = refl
 
 pub is_sign-nil : is_sign [] ≡ false
@@ -164,15 +166,15 @@ digits_first : (p : List ℕ → Bool) (bs : List ℕ) → some_digits_then p bs
 digits_first p [] h = cc
 digits_first p (b ∷ bs) h = and_first (is_digit b) (digits_then p bs) h
 
-pub number_begins : (text : List ℕ) → is_number text ≡ true → begins_number text ≡ true
-number_begins [] h = cc
+pub number_begins : (text : List ℕ) → is_number_token text ≡ true → begins_number text ≡ true
+number_begins [] h = let no : is_number_by_bytes [] ≡ true = sym (number_is_token []) ∙ h in cc
 number_begins (b ∷ bs) h = at (is_digit b) (begins_fraction b) refl refl where
   at : (d f : Bool) → is_digit b ≡ d → begins_fraction b ≡ f → begins_number (b ∷ bs) ≡ true
   at true f e g = rw e refl
   at false true e g =
-      (let rest : some_digits_then is_exponent bs ≡ true = (let k : is_number (b ∷ bs) ≡ some_digits_then is_exponent bs = rw (e, g) refl in sym k ∙ h) in
-      rw (e, g) (digits_first is_exponent bs rest))
-  at false false e g = (let k : is_number (b ∷ bs) ≡ false = rw (e, g) refl in cc)
+      (let rest : some_digits_then is_exponent_by_bytes bs ≡ true = (let k : is_number_by_bytes (b ∷ bs) ≡ some_digits_then is_exponent_by_bytes bs = rw (e, g) refl in sym k ∙ sym (number_is_token (b ∷ bs)) ∙ h) in
+      rw (e, g) (digits_first is_exponent_by_bytes bs rest))
+  at false false e g = (let k : is_number_by_bytes (b ∷ bs) ≡ false = rw (e, g) refl in let is : is_number_by_bytes (b ∷ bs) ≡ true = sym (number_is_token (b ∷ bs)) ∙ h in cc)
 
 -- a longer front begins as a number does, too
 pub begins_longer : (n m : ℕ) (bytes : List ℕ) → begins_number (take n bytes) ≡ true → n ≤ m → begins_number (take m bytes) ≡ true

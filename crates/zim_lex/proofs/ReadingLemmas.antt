@@ -6,10 +6,10 @@ use Rattle.std.proofs.lemmas.List.{append-nil, take-append-le, take-take}
 use Rattle.std.proofs.Math.Seq.{take-append-add}
 use Rattle.zim_gate.specs.declared.stops.Failed.{Failed}
 use Rattle.zim_gate.specs.Counts.{Rose}
-use Rattle.zim_gate.specs.Folder.{FolderState, Reads}
+use Rattle.zim_gate.specs.Folder.{FolderState, Reads, OnlyRead}
 use Rattle.zim_lex.specs.declared.reading.ReadText.{ReadText}
 use Rattle.zim_lex.specs.Lines.{lines_of, placed_lines}
-use Rattle.zim_lex.specs.Reading.{OnlyRead, IsWhole, IsPast}
+use Rattle.zim_lex.specs.Reading.{IsWhole, IsPast}
 
 pub OnlyRead-refl : (s : FolderState) → OnlyRead s s
 OnlyRead-refl s = record { held = refl; wrote = refl; read_faults = omega arith; write_faults = refl; faultless_below = refl }

@@ -7,7 +7,9 @@ use Rattle.zim_fault.specs.Words.{spelling_of_word}
 use Rattle.zim_lex.specs.Spelled.{word_in, sign_in}
 use Rattle.zim_fault.specs.declared.signs.Sign.{Sign}
 use Rattle.zim_lex.specs.Classes.{is_blank, begins_comment, begins_name, is_quote, starts_number}
-use Rattle.zim_lex.specs.Numbers.{is_number, is_string}
+use Rattle.zim_decimal.specs.Token.{is_number_token}
+use Rattle.zim_lex.specs.Numbers.{is_string}
+use Rattle.zim_lex.proofs.NumberTokens.{number_is_token}
 use Rattle.zim_lex.specs.Pieces.{is_piece, is_identifier, is_word, is_sign, between_quotes, token_of}
 use Rattle.zim_lex.proofs.SpelledLemmas.{word_in_spells, word_in_of}
 use Rattle.zim_lex.proofs.ClassLemmas.{blank_begins_no_name, blank_starts_no_number, blank_is_no_quote, comment_begins_no_name, comment_starts_no_number, comment_is_no_quote, name_starts_no_number, name_is_no_quote, quote_starts_no_number, quote_begins_no_name}
@@ -40,12 +42,12 @@ string_of (b ∷ bs) is q =
     sym (string_pieces b bs blank comment (quote_begins_no_name b q) q) ∙ is
 
 -- a piece that begins with a digit or a point and is no sign is a number
-number_of : (piece : List ℕ) → is_piece piece ≡ true → begins_name (first_byte piece) ≡ false → is_quote (first_byte piece) ≡ false → starts_number (first_byte piece) ≡ true → is_sign piece ≡ false → is_number piece ≡ true
+number_of : (piece : List ℕ) → is_piece piece ≡ true → begins_name (first_byte piece) ≡ false → is_quote (first_byte piece) ≡ false → starts_number (first_byte piece) ≡ true → is_sign piece ≡ false → is_number_token piece ≡ true
 number_of [] is n q h s = (let none : is_piece [] ≡ false = is_piece-nil in cc)
 number_of (b ∷ bs) is n q h s =
     let blank : is_blank b ≡ false = not_both (is_blank b) (starts_number b) (blank_starts_no_number b) h in
     let comment : begins_comment b ≡ false = not_both (begins_comment b) (starts_number b) (comment_starts_no_number b) h in
-    one_left (is_number (b ∷ bs)) (is_sign (b ∷ bs)) s (sym (other_pieces b bs blank comment n q) ∙ is)
+    one_left (is_number_token (b ∷ bs)) (is_sign (b ∷ bs)) s (sym (other_pieces b bs blank comment n q) ∙ is)
   where
     one_left : (x y : Bool) → y ≡ false → (x || y) ≡ true → x ≡ true
     one_left true y h k = refl
@@ -55,8 +57,8 @@ no_identifier : (piece : List ℕ) → begins_name (first_byte piece) ≡ false 
 no_identifier [] n = refl
 no_identifier (b ∷ bs) n = rw n refl
 
-no_number : (piece : List ℕ) → starts_number (first_byte piece) ≡ false → is_number piece ≡ false
-no_number [] d = refl
+no_number : (piece : List ℕ) → starts_number (first_byte piece) ≡ false → is_number_token piece ≡ false
+no_number [] d = number_is_token []
 no_number (b ∷ bs) d = number_starts b bs d
 
 no_string : (piece : List ℕ) → is_quote (first_byte piece) ≡ false → is_string piece ≡ false
@@ -73,11 +75,11 @@ no_word piece n =
     in at (word_in piece) refl
 
 -- no number is a sign
-sign_is_no_number : (piece : List ℕ) → is_sign piece ≡ true → is_number piece ≡ false
+sign_is_no_number : (piece : List ℕ) → is_sign piece ≡ true → is_number_token piece ≡ false
 sign_is_no_number piece s =
-    let at : (x : Bool) → is_number piece ≡ x → x ≡ false =
+    let at : (x : Bool) → is_number_token piece ≡ x → x ≡ false =
     elim [ true ↦ λ e. (let none : is_sign piece ≡ false = no_sign_of_number piece (number_begins piece e) in cc) | false ↦ λ e. refl ]
-    in at (is_number piece) refl
+    in at (is_number_token piece) refl
 
 -- a word
 pub token_of-word : (piece : List ℕ) (word : Word) → spelling_of_word word ≡ piece → begins_name (first_byte piece) ≡ true → token_of piece ≡ Some (tokens.Word word)

@@ -7,9 +7,9 @@ use Rattle.zim_lex.specs.Classes.{is_quote}
 use Rattle.zim_lex.specs.Pieces.{is_piece}
 
 -- the pieces one after another, and then the rest
-abbrev pub joined : List (List ℕ) → List ℕ → List ℕ
-joined [] rest = rest
-joined (piece ∷ pieces) rest = piece ++ joined pieces rest
+abbrev pub pieces_joined : List (List ℕ) → List ℕ → List ℕ
+pieces_joined [] rest = rest
+pieces_joined (piece ∷ pieces) rest = piece ++ pieces_joined pieces rest
 
 -- the bytes are a piece, and with one or more of those that follow they are none
 pub record IsLongest (piece after : List ℕ) : Type 0 where
@@ -19,11 +19,11 @@ pub record IsLongest (piece after : List ℕ) : Type 0 where
 -- no piece could be longer where it begins
 abbrev pub AreLongest : List (List ℕ) → List ℕ → Type 0
 AreLongest [] rest = Unit {0}
-AreLongest (piece ∷ pieces) rest = IsLongest piece (joined pieces rest) × AreLongest pieces rest
+AreLongest (piece ∷ pieces) rest = IsLongest piece (pieces_joined pieces rest) × AreLongest pieces rest
 
 -- the pieces spell the line
 pub record IsCut (line : List ℕ) (pieces : List (List ℕ)) : Type 0 where
-  pub spelled : joined pieces [] ≡ line
+  pub spelled : pieces_joined pieces [] ≡ line
   pub longest : AreLongest pieces []
 
 -- the fault of a byte that begins no piece: of a quote, that it isn't closed on its line
@@ -35,7 +35,7 @@ pub record IsStuck (line : List ℕ) (kind : Kind) : Type 0 where
   pub pieces : List (List ℕ)
   pub byte : ℕ
   pub after : List ℕ
-  pub spelled : joined pieces (byte ∷ after) ≡ line
+  pub spelled : pieces_joined pieces (byte ∷ after) ≡ line
   pub longest : AreLongest pieces (byte ∷ after)
   pub begins_none : (n : ℕ) → is_piece (take n (byte ∷ after)) ≡ false
   pub met : stuck_at byte ≡ kind

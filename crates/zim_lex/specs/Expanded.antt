@@ -4,7 +4,7 @@ use Rattle.std.specs.FinMap as map
 use Rattle.zim_answer.specs.Answer.{Answer, ◌>>=◌, goes}
 use Rattle.zim_fault.specs.declared.faults.Fault as faults
 use Rattle.zim_fault.specs.declared.kinds.Kind.TheVariants.{IncludeDeep, LongFile}
-use Rattle.zim_gate.specs.Folder.{Files}
+use Rattle.zim_gate.specs.Folder.{HeldFiles}
 use Rattle.zim_lex.specs.declared.expanding.Expansion.{Expansion}
 use Rattle.zim_lex.specs.declared.lines.Line.{Line}
 use Rattle.zim_lex.specs.declared.lines.Loaded.{Loaded}
@@ -44,7 +44,7 @@ with_held include so_far name None = Err (Missing name so_far.files)
 with_held include so_far name (Some text) = with_text include so_far name text
 
 -- a file is opened, anew each time
-abbrev pub opened : Files → Including → Expansion → List ℕ → Answer Expansion Refusal
+abbrev pub opened : HeldFiles → Including → Expansion → List ℕ → Answer Expansion Refusal
 opened files include so_far name = with_held include so_far name (map.get files name)
 
 -- how deep files may include one another, the model itself being the first
@@ -52,7 +52,7 @@ abbrev pub most_depth : ℕ
 most_depth = 16
 
 -- what an include line does in a file below which so many more depths are allowed: where none is, it is a fault
-unfoldable pub includes : ℕ → Files → Including
+unfoldable pub includes : ℕ → HeldFiles → Including
 includes zero files so_far line name = Err (At (record { place = line.place; kind = IncludeDeep }) so_far.files)
 includes (suc left) files so_far line name = opened files (includes left files) so_far name
 
@@ -61,5 +61,5 @@ abbrev pub nothing : Expansion
 nothing = record { lines = []; files = []; room = most_bytes }
 
 -- the lines and files of the model that has this name among some files, or why there are none
-unfoldable pub model_in : Files → List ℕ → Answer Loaded Refusal
+unfoldable pub model_in : HeldFiles → List ℕ → Answer Loaded Refusal
 model_in files name = opened files (includes (most_depth - 1) files) nothing name >>= λ all. Ok (record { lines = all.lines; files = all.files })

@@ -5,14 +5,13 @@ use Rattle.zim_answer.specs.Answer.{Answer}
 use Rattle.zim_fault.specs.declared.faults.Fault as faults
 use Rattle.zim_fault.specs.declared.kinds.Kind.TheVariants.{IncludeDeep, LongFile}
 use Rattle.zim_gate.specs.Counts.{Rose}
-use Rattle.zim_gate.specs.Folder.{Files, FolderState}
+use Rattle.zim_gate.specs.Folder.{HeldFiles, FolderState, OnlyRead}
 use Rattle.zim_lex.specs.declared.expanding.Expansion.{Expansion}
 use Rattle.zim_lex.specs.declared.expanding.Stop.{Stop}
 use Rattle.zim_lex.specs.declared.expanding.Stop.TheVariants.{Fault, Read, Memory}
 use Rattle.zim_lex.specs.declared.lines.Line.{Line}
 use Rattle.zim_lex.specs.Expanded.{Refusal, At}
 use Rattle.zim_lex.specs.Lines.{bytes_of, lines_of, line_of_byte, placed_lines}
-use Rattle.zim_lex.specs.Reading.{OnlyRead}
 use Rattle.zim_lex.specs.Unread.{MayBeUnread}
 
 -- a fact of the fault, where one is the result
@@ -80,7 +79,7 @@ IsExpanded answer rose new (Err (Read name)) = MayBeUnread (λ all. all.files) r
 IsExpanded answer rose new (Err Memory) = Unit {0}
 
 -- expanding something that has this answer over told files, and brings at most so many files and bytes more than room is used
-pub record Expands (before now : FolderState) (answer : Files → Answer Expansion Refusal) (old new : Expansion) (most_files most_bytes : ℕ) (result : Result ⊤ Stop) : Type 0 where
+pub record Expands (before now : FolderState) (answer : HeldFiles → Answer Expansion Refusal) (old new : Expansion) (most_files most_bytes : ℕ) (result : Result ⊤ Stop) : Type 0 where
   pub only : OnlyRead before now
   pub told : IfSome before.held (λ held. IsExpanded (answer held) (Rose before.read_faults now.read_faults) new result)
   pub untold : IfNone before.held (IfUnread result (Rose before.read_faults now.read_faults))

@@ -3,7 +3,7 @@ use Rattle.std.specs.Prelude.{◌≡◌, ℕ, ◌≤◌, List, [], ◌∷◌, le
 use Rattle.zim_answer.specs.Answer.{Answer}
 use Rattle.zim_fault.specs.declared.faults.Fault as faults
 use Rattle.zim_gate.specs.Counts.{Rose}
-use Rattle.zim_gate.specs.Folder.{Files, FolderState}
+use Rattle.zim_gate.specs.Folder.{HeldFiles, FolderState, OnlyRead}
 use Rattle.zim_lex.specs.declared.expanding.Stop.{Stop}
 use Rattle.zim_lex.specs.declared.expanding.Stop.TheVariants as stops
 use Rattle.zim_lex.specs.declared.lines.Loaded.{Loaded}
@@ -12,8 +12,7 @@ use Rattle.zim_lex.specs.declared.faults.LoadFault.TheVariants.{Fault, Read, Mem
 use Rattle.zim_lex.specs.Expanded.{Refusal, At, model_in}
 use Rattle.zim_lex.specs.Expanding.{IsLoadingFault}
 use Rattle.zim_lex.specs.Lines.{AreWithin}
-use Rattle.zim_lex.specs.Opened.{Begins}
-use Rattle.zim_lex.specs.Reading.{OnlyRead}
+use Rattle.zim_lex.specs.Opened.{ComeFirst}
 use Rattle.zim_lex.specs.Unread.{MayBeUnread}
 
 -- the fault of a load that stops after these files were opened
@@ -52,7 +51,7 @@ pub record IsWithinLimits (loaded : Loaded) : Type 0 where
   pub lines : AreWithin loaded.lines (length loaded.files)
 
 -- what a load's result tells, where these files are held and a fact stands for a risen count
-pub record Tells (held : Option Files) (name : List ℕ) (rose : Type 0) (result : Result Loaded LoadFault) : Type 0 where
+pub record Tells (held : Option HeldFiles) (name : List ℕ) (rose : Type 0) (result : Result Loaded LoadFault) : Type 0 where
   -- over told files the result is the model's; a file that is there is unread only where the count rose
   pub told : IfSome held (λ files. IsModel (model_in files name) rose result)
   -- over others a file is unread only where the count rose
@@ -64,6 +63,6 @@ pub record Loads (before now : FolderState) (name : List ℕ) (result : Result L
   pub within : IfOk result IsWithinLimits
   pub fault : IfFault result (λ fault files. IsLoadingFault fault (length files))
   -- the model's own file is the first that was opened
-  pub opened : IfOpened result (Begins (name ∷ []))
+  pub opened : IfOpened result (ComeFirst (name ∷ []))
   pub only : OnlyRead before now
   pub begun : now.begun ≡ None

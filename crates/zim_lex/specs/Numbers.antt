@@ -1,4 +1,4 @@
--- How numbers and strings are spelled.
+-- How strings are spelled, and numbers byte by byte: by a law of the proofs these are the number tokens.
 use Rattle.std.specs.Prelude.{ℕ, List, [], ◌∷◌, Bool, true, false, ◌&&◌, ◌||◌, ◌==◌, if◌then◌else◌}
 use Rattle.zim_lex.specs.Classes.{is_digit, begins_fraction, begins_exponent, begins_signed, is_quote}
 
@@ -23,22 +23,22 @@ is_signed_digits [] = false
 is_signed_digits (b ∷ bs) = if begins_signed b then some_digits_then is_nothing bs else some_digits_then is_nothing (b ∷ bs)
 
 -- `e` or `E` and digits, maybe signed; or nothing
-abbrev pub is_exponent : List ℕ → Bool
-is_exponent [] = true
-is_exponent (b ∷ bs) = begins_exponent b && is_signed_digits bs
+abbrev pub is_exponent_by_bytes : List ℕ → Bool
+is_exponent_by_bytes [] = true
+is_exponent_by_bytes (b ∷ bs) = begins_exponent b && is_signed_digits bs
 
 -- `.`, digits and maybe an exponent
 abbrev pub is_fraction : List ℕ → Bool
 is_fraction [] = false
-is_fraction (b ∷ bs) = begins_fraction b && some_digits_then is_exponent bs
+is_fraction (b ∷ bs) = begins_fraction b && some_digits_then is_exponent_by_bytes bs
 
 -- what may follow the first digits of a number
 abbrev pub ends_number : List ℕ → Bool
-ends_number text = is_exponent text || is_fraction text
+ends_number text = is_exponent_by_bytes text || is_fraction text
 
 -- digits, maybe `.` and digits, maybe an exponent; or the same without the first digits
-abbrev pub is_number : List ℕ → Bool
-is_number text = some_digits_then ends_number text || is_fraction text
+abbrev pub is_number_by_bytes : List ℕ → Bool
+is_number_by_bytes text = some_digits_then ends_number text || is_fraction text
 
 -- bytes other than the quote, and then the quote
 abbrev pub is_closed : ℕ → List ℕ → Bool

@@ -1,18 +1,9 @@
 -- Reading the file that is open to its end.
-use Rattle.std.specs.Prelude.{◌≡◌, ℕ, ◌+◌, ◌≤◌, ◌<◌, List, length, Option, IfSome, Result, Ok, Err}
-use Rattle.zim_gate.specs.Folder.{FolderState}
+use Rattle.std.specs.Prelude.{◌≡◌, ℕ, ◌+◌, ◌<◌, List, length, Option, IfSome, Result, Ok, Err}
 use Rattle.zim_lex.specs.declared.reading.ReadText.{ReadText}
 use Rattle.zim_lex.specs.declared.reading.ReadStop.{ReadStop}
 use Rattle.zim_lex.specs.declared.reading.ReadStop.TheVariants.{Long, Failed, Memory}
 use Rattle.zim_lex.specs.Lines.{lines_of, line_of_byte, placed_lines}
-
--- the folder did nothing but read, and maybe fail at that
-pub record OnlyRead (before now : FolderState) : Type 0 where
-  pub held : now.held ≡ before.held
-  pub wrote : now.wrote ≡ before.wrote
-  pub read_faults : before.read_faults ≤ now.read_faults
-  pub write_faults : now.write_faults ≡ before.write_faults
-  pub faultless_below : now.faultless_below ≡ before.faultless_below
 
 -- the whole text was read, and so much room is left
 pub record IsWhole (room : ℕ) (text : List ℕ) (read : ReadText) : Type 0 where

@@ -11,13 +11,13 @@ use Rattle.zim_fault.specs.declared.tokens.Placed.{Placed}
 use Rattle.zim_lex.specs.declared.lines.Span.{Span}
 
 -- whether a token ends a statement
-abbrev pub is_semicolon : Token → Bool
-is_semicolon (Sign SSemicolon) = true
-is_semicolon _ = false
+abbrev pub is_semicolon_token : Token → Bool
+is_semicolon_token (Sign SSemicolon) = true
+is_semicolon_token _ = false
 
 -- the same of a token with its place
 abbrev pub ends_statement : Placed → Bool
-ends_statement placed = is_semicolon placed.token
+ends_statement placed = is_semicolon_token placed.token
 
 -- the spans of the parts between semicolons, each with the semicolon after it; the last part has none after it, and is to be empty
 abbrev pub spans_from : ℕ → List (List Placed) → Answer (List Span) Fault

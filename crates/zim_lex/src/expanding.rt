@@ -3,7 +3,7 @@ ghost use Rattle.zim_gate.specs.declared.stops.OpenStop.TheVariants as open_stop
 ghost use Rattle.zim_lex.specs.Expanded.{includes, opened, taken};
 ghost use Rattle.zim_lex.specs.Expanding.{Expands, IfKnown, OpensFile, IsUnread};
 ghost use Rattle.zim_lex.specs.Lines.{most_bytes};
-ghost use Rattle.zim_lex.specs.Opened.{Begins};
+ghost use Rattle.zim_lex.specs.Opened.{ComeFirst};
 ghost use Rattle.zim_lex.specs.declared.expanding.Stop.TheVariants as stops;
 
 use crate::includes::included;
@@ -107,7 +107,7 @@ fn take_line<F: Folder>(
     requires place { line.place.file < length so_far.old.files }
     ensures expands { Expands (F.state folder.old) (F.state folder.new) (λ files. taken (includes left files) so_far.old line) so_far.old so_far.new (length line.bytes) (length line.bytes) result }
     ensures begun { (F.state folder.old).begun ≡ None → (F.state folder.new).begun ≡ None }
-    ensures opened { IfKnown result (Begins so_far.old.files so_far.new.files) }
+    ensures opened { IfKnown result (ComeFirst so_far.old.files so_far.new.files) }
 {
     match included(line.bytes.as_slice()) {
         Some(name) => {
@@ -137,7 +137,7 @@ pub fn expand<F: Folder>(
     requires room { length so_far.old.files + so_far.old.room ≤ most_bytes }
     ensures expands { Expands (F.state folder.old) (F.state folder.new) (λ files. opened files (includes left files) so_far.old name.now) so_far.old so_far.new 1 0 result }
     ensures begun { (F.state folder.new).begun ≡ None }
-    ensures opened { IfKnown result (Begins (so_far.old.files ++ name.now ∷ []) so_far.new.files) }
+    ensures opened { IfKnown result (ComeFirst (so_far.old.files ++ name.now ∷ []) so_far.new.files) }
 {
     let file = so_far.files.len() as u32;
     let lines = open_file(alloc, folder, name, so_far)?;

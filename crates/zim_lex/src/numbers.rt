@@ -2,7 +2,8 @@ ghost use Rattle.std.specs.Prelude.{◌≡◌, ◌≤◌, length, drop, if◌the
 ghost use Rattle.std.specs.List.{prefix_len};
 ghost use Rattle.zim_lex.specs.Classes as class;
 ghost use Rattle.zim_lex.specs.Fronts.{IsLongestThat, IsFrontThat};
-ghost use Rattle.zim_lex.specs.Numbers.{is_signed_digits, is_exponent, is_fraction, is_number, is_string};
+ghost use Rattle.zim_lex.specs.Numbers.{is_signed_digits, is_exponent_by_bytes, is_fraction, is_string};
+ghost use Rattle.zim_decimal.specs.Token.{is_number_token};
 
 use memchr::memchr;
 
@@ -73,7 +74,7 @@ fn signed_length(bytes: &[u8]) -> Option<usize>
 
 /// How many bytes the exponent at the front has, 0 where none is.
 fn exponent_length(bytes: &[u8]) -> usize
-    ensures { IsLongestThat is_exponent bytes.now result }
+    ensures { IsLongestThat is_exponent_by_bytes bytes.now result }
 {
     if !begins_exponent(bytes) {
         return 0;
@@ -103,7 +104,7 @@ fn fraction_length(bytes: &[u8]) -> Option<usize>
 
 /// How many bytes the longest number at the front has.
 pub fn number_length(bytes: &[u8]) -> Option<usize>
-    ensures { IsFrontThat is_number bytes.now result }
+    ensures { IsFrontThat is_number_token bytes.now result }
 {
     let digits = count_digits(bytes);
     if digits == 0 {

@@ -1,6 +1,7 @@
 ghost use Rattle.std.specs.Prelude.{◌≡◌, ◌+◌, ◌≤◌, IfOk};
 ghost use Rattle.zim_lex.specs.Lines.{most_bytes, bytes_of};
-ghost use Rattle.zim_lex.specs.Reading.{OnlyRead, IsReadOf};
+ghost use Rattle.zim_gate.specs.Folder.{OnlyRead};
+ghost use Rattle.zim_lex.specs.Reading.{IsReadOf};
 ghost use Rattle.zim_gate.specs.Counts.{Rose};
 ghost use Rattle.zim_lex.specs.declared.reading.ReadStop.TheVariants as stops;
 

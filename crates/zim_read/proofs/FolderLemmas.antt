@@ -8,10 +8,9 @@ use Rattle.std.proofs.Math.Seq.{take-append-add}
 use Rattle.zim_gate.specs.declared.stops.Failed.{Failed}
 use Rattle.zim_gate.specs.declared.stops.OpenStop.{OpenStop}
 use Rattle.zim_gate.specs.Counts.{Rose}
-use Rattle.zim_gate.specs.Folder.{FolderState, Opens, Reads}
+use Rattle.zim_gate.specs.Folder.{FolderState, Opens, Reads, OnlyRead}
 use Rattle.zim_read.specs.Lines.{most_file_bytes}
 use Rattle.zim_read.specs.Private.{kept_of}
-use Rattle.zim_read.specs.Reading.{OnlyRead}
 
 pub OnlyRead-refl : (s : FolderState) → OnlyRead s s
 OnlyRead-refl s = record { held = refl; wrote = refl; read_faults = omega arith; write_faults = refl; faultless_below = refl }

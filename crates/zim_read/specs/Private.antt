@@ -42,8 +42,8 @@ abbrev pub with_spelled : List Field → List ℕ → Option (List Field)
 with_spelled fields text = option_map (λ (field : Field). fields ++ field ∷ []) (field_of text)
 
 -- The number of a text.
-abbrev pub number_of : List ℕ → Answer Elem Kind
-number_of text = number_element (field_answer text)
+abbrev pub number_field : List ℕ → Answer Elem Kind
+number_field text = number_element (field_answer text)
 
 -- Rows, and those of each field as a tuple of its own.
 abbrev pub with_each : FieldKind → ℕ → List DataRow → List (List ℕ) → Answer (List DataRow) Kind

@@ -1,30 +1,22 @@
 -- What reading a data file tells, by what is known of its folder.
-use Rattle.std.specs.Prelude.{◌≡◌, ℕ, ◌≤◌, List, Option, None, Some, IfSome, IfNone, Result, Ok, Err}
+use Rattle.std.specs.Prelude.{◌≡◌, ℕ, List, Option, None, Some, IfSome, IfNone, Result, Ok, Err}
 use Rattle.std.specs.FinMap as map
 use Rattle.zim_answer.specs.Answer.{Answer}
 use Rattle.zim_fault.specs.declared.faults.Fault as faults
 use Rattle.zim_gate.specs.Counts.{Rose}
-use Rattle.zim_gate.specs.Folder.{FolderState}
+use Rattle.zim_gate.specs.Folder.{FolderState, OnlyRead}
 use Rattle.zim_read.specs.declared.stops.RowsStop.{RowsStop}
 use Rattle.zim_read.specs.declared.stops.RowsStop.TheVariants.{Fault, Read, Memory}
 
--- The folder did nothing but read, and maybe fail at that.
-pub record OnlyRead (before now : FolderState) : Type 0 where
-  pub held : now.held ≡ before.held
-  pub wrote : now.wrote ≡ before.wrote
-  pub read_faults : before.read_faults ≤ now.read_faults
-  pub write_faults : now.write_faults ≡ before.write_faults
-  pub faultless_below : now.faultless_below ≡ before.faultless_below
-
 -- A fact, where the file wasn't read.
-abbrev pub IfUnread : {V : Type 0} → Result V RowsStop → Type 0 → Type 0
-IfUnread (Err Read) P = P
-IfUnread _ P = Unit {0}
+abbrev pub IfRowsUnread : {V : Type 0} → Result V RowsStop → Type 0 → Type 0
+IfRowsUnread (Err Read) P = P
+IfRowsUnread _ P = Unit {0}
 
 -- A fact of the fault, where one is the result.
-abbrev pub IfFault : {V : Type 0} → Result V RowsStop → (faults.Fault → Type 0) → Type 0
-IfFault (Err (Fault fault)) P = P fault
-IfFault _ P = Unit {0}
+abbrev pub IfRowsFault : {V : Type 0} → Result V RowsStop → (faults.Fault → Type 0) → Type 0
+IfRowsFault (Err (Fault fault)) P = P fault
+IfRowsFault _ P = Unit {0}
 
 -- A result is what the file's bytes give, but that a risen count can stand in place of it; a file that isn't held is unread.
 abbrev pub IsOfFile : {V A : Type 0} → (V → A) → (List ℕ → Answer A faults.Fault) → Type 0 → Option (List ℕ) → Result V RowsStop → Type 0
@@ -43,8 +35,8 @@ pub record ReadsFile {V A : Type 0} (view : V → A) (before now : FolderState) 
   -- over told files the result is that of the named one; where that is held it is unread only where the count rose
   pub told : IfSome before.held (λ files. IsOfFile view gives (Rose before.read_faults now.read_faults) (map.get files name) result)
   -- over others it is unread only where the count rose
-  pub untold : IfNone before.held (IfUnread result (Rose before.read_faults now.read_faults))
+  pub untold : IfNone before.held (IfRowsUnread result (Rose before.read_faults now.read_faults))
   -- a fault's place is in this file
-  pub place : IfFault result (λ fault. fault.place.file ≡ file)
+  pub place : IfRowsFault result (λ fault. fault.place.file ≡ file)
   pub only : OnlyRead before now
   pub begun : now.begun ≡ None

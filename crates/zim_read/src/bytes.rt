@@ -3,7 +3,7 @@ ghost use Rattle.std.specs.Prelude.{◌≡◌, ◌≤◌, length, IfOk};
 ghost use Rattle.zim_gate.specs.Counts.{Rose};
 ghost use Rattle.zim_read.specs.Private.{SaysKept};
 ghost use Rattle.zim_read.specs.Lines.{most_file_bytes};
-ghost use Rattle.zim_read.specs.Reading.{OnlyRead};
+ghost use Rattle.zim_gate.specs.Folder.{OnlyRead};
 ghost use Rattle.zim_read.specs.declared.bytes.ReadStop.TheVariants as stops;
 
 use std::alloc::Global;

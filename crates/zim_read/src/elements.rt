@@ -2,7 +2,7 @@
 ghost use Rattle.std.specs.Prelude.{◌≡◌};
 ghost use Rattle.std.specs.List.{list_any};
 ghost use Rattle.zim_answer.specs.Gives.{Gives};
-ghost use Rattle.zim_read.specs.Private.{lent, number_of};
+ghost use Rattle.zim_read.specs.Private.{lent, number_field};
 ghost use Rattle.zim_read.specs.Causes.{line_cause};
 ghost use Rattle.zim_read.specs.Rows as spec;
 
@@ -16,7 +16,7 @@ use zim_tuples::{Elem, Tuple};
 
 // The number of a text.
 fn number_element(text: &[u8]) -> Result<Elem, LineStop>
-    ensures { Gives (λ element. element) line_cause (number_of text.now) result }
+    ensures { Gives (λ element. element) line_cause (number_field text.now) result }
 {
     match read_field(text) {
         Ok(Some(number)) => Ok(Elem::Number(number)),

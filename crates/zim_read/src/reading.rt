@@ -4,7 +4,7 @@ ghost use Rattle.zim_answer.specs.Gives.{Gives};
 ghost use Rattle.zim_read.specs.Causes.{rows_cause};
 ghost use Rattle.zim_read.specs.Lines as lines;
 ghost use Rattle.zim_read.specs.Private.{manner_of, kept_of, ended_taken, rows_of_kept};
-ghost use Rattle.zim_read.specs.Reading.{ReadsFile, IfFault};
+ghost use Rattle.zim_read.specs.Reading.{ReadsFile, IfRowsFault};
 ghost use Rattle.zim_read.specs.Rows.{data_rows, line_taken, fault_at};
 
 use crate::bytes::{ReadBytes, ReadStop, read_bytes};
@@ -48,7 +48,7 @@ fn take_line(
     taken: &mut Taken,
 ) -> Result<(), RowsStop>
     ensures answer { Gives (λ _. taken.new) rows_cause (line_taken file (manner_of manner.now) taken.old (number, line.now)) result }
-    ensures place { IfFault result (λ fault. fault.place.file ≡ file) }
+    ensures place { IfRowsFault result (λ fault. fault.place.file ≡ file) }
 {
     match take_in_turn(alloc, manner, number, line, taken) {
         Ok(()) => Ok(()),
@@ -69,7 +69,7 @@ fn take_ended<'a>(
     ensures answer { Gives (λ _. taken.new) rows_cause (ended_taken file (manner_of manner.now) taken.old text.now) result }
     ensures number { IfOk result (λ next. next.0 ≡ length (lines.ended_lines text.now) + 1) }
     ensures rest { IfOk result (λ next. next.1.now ≡ lines.behind_last_end text.now) }
-    ensures place { IfFault result (λ fault. fault.place.file ≡ file) }
+    ensures place { IfRowsFault result (λ fault. fault.place.file ≡ file) }
 {
     let mut number = 1;
     let mut rest = text;
@@ -92,7 +92,7 @@ fn rows_of(
 ) -> Result<Vec<DataRow>, RowsStop>
     requires { length read.now.bytes ≤ lines.most_file_bytes }
     ensures answer { Gives (λ rows. rows.items) rows_cause (rows_of_kept file (manner_of manner.now) uses read.now.is_whole read.now.bytes) result }
-    ensures place { IfFault result (λ fault. fault.place.file ≡ file) }
+    ensures place { IfRowsFault result (λ fault. fault.place.file ≡ file) }
 {
     let mut taken = Taken {
         rows: Sequence::new(alloc),

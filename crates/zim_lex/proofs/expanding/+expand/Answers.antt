@@ -6,7 +6,7 @@ use Rattle.std.proofs.lemmas.List.Sums.{sum_by-cons}
 use Rattle.std.proofs.lemmas.Result.{err_from_is_err_and}
 use Rattle.zim_lex.specs.declared.lines.Line.{Line}
 use Rattle.zim_lex.specs.Lines.{most_bytes, bytes_of}
-use Rattle.zim_lex.specs.Opened.{Begins}
+use Rattle.zim_lex.specs.Opened.{ComeFirst}
 use Rattle.zim_lex.proofs.ExpandedLemmas.{begins-refl, begins-trans, moved}
 use Rattle.zim_lex.proofs.GrowsLemmas.{growing_first, growing_on}
 use Rattle.zim_lex.proofs.IncludeLemmas.{included_is, include_has_bytes}
@@ -119,7 +119,7 @@ pub expand-returns-in_err-lines-clause-opened : goal.expand-returns-in_err-lines
 expand-returns-in_err-lines-clause-opened g t c =
     let p = err_from_is_err_and c.from_residual.result c.from_residual.ensures.1 in
     rw (p.1, p.2)
-    (known_from (List Line) ⊤ c.in_err-lines.field-0.0 (c.open_file.new.so_far.files ≡ c.args.so_far.now.files ++ c.args.name.now ∷ []) (Begins (c.args.so_far.now.files ++ c.args.name.now ∷ []) c.open_file.new.so_far.files)
+    (known_from (List Line) ⊤ c.in_err-lines.field-0.0 (c.open_file.new.so_far.files ≡ c.args.so_far.now.files ++ c.args.name.now ∷ []) (ComeFirst (c.args.so_far.now.files ++ c.args.name.now ∷ []) c.open_file.new.so_far.files)
     (begins-same (c.args.so_far.now.files ++ c.args.name.now ∷ []) c.open_file.new.so_far.files) c.in_err-lines.ensures.files)
 
 pub expand-returns-in_err-take_line-clause-opened : goal.expand-returns-in_err-take_line-clause-opened
@@ -127,5 +127,5 @@ expand-returns-in_err-take_line-clause-opened g t c =
     let at = c.loop-line in
     let p = err_from_is_err_and c.from_residual-in_err-take_line.result c.from_residual-in_err-take_line.ensures.1 in
     rw (p.1, p.2)
-    (known_from ⊤ ⊤ c.in_err-take_line.field-0.0 (Begins at.so_far.files c.take_line.new.so_far.files) (Begins (c.args.so_far.now.files ++ c.args.name.now ∷ []) c.take_line.new.so_far.files)
+    (known_from ⊤ ⊤ c.in_err-take_line.field-0.0 (ComeFirst at.so_far.files c.take_line.new.so_far.files) (ComeFirst (c.args.so_far.now.files ++ c.args.name.now ∷ []) c.take_line.new.so_far.files)
     (begins-trans (c.args.so_far.now.files ++ c.args.name.now ∷ []) at.so_far.files c.take_line.new.so_far.files at.invariant.opened) c.in_err-take_line.ensures.opened)

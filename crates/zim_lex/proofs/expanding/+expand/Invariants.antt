@@ -5,8 +5,8 @@ use Rattle.std.specs.Vec.Iter.{into_iter_items, into_iter_len}
 use Rattle.zim_answer.specs.Answer.{goes}
 use Rattle.zim_lex.specs.Expanded.{taken, includes, opened}
 use Rattle.zim_lex.specs.Lines.{bytes_of}
-use Rattle.zim_lex.specs.Opened.{Begins}
-use Rattle.zim_lex.specs.Reading.{OnlyRead}
+use Rattle.zim_lex.specs.Opened.{ComeFirst}
+use Rattle.zim_gate.specs.Folder.{OnlyRead}
 use Rattle.zim_lex.proofs.ExpandedLemmas.{moved}
 use Rattle.zim_lex.proofs.GrowsLemmas.{Growing}
 use Rattle.zim_lex.proofs.expanding.+expand.Given as goal
@@ -26,6 +26,6 @@ invariant-expand-loop-line g l =
       told : IfSome (state l.fn.folder).held (λ held. goes (taken (includes l.left held)) l.so_far (map (moved l.file) (into_iter_items l.line-iterator)) ≡ opened held (includes l.left held) l.fn.so_far l.name);
       growing : Growing l.fn.so_far l.so_far (bytes_of (into_iter_items l.line-iterator));
       file : l.file ≡ length l.fn.so_far.files;
-      opened : Begins (l.fn.so_far.files ++ l.name ∷ []) l.so_far.files;
+      opened : ComeFirst (l.fn.so_far.files ++ l.name ∷ []) l.so_far.files;
       counted : into_iter_len l.line-iterator ≡ length (into_iter_items l.line-iterator);
     }

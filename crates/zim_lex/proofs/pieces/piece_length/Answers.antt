@@ -3,7 +3,7 @@ use Rattle.std.proofs.Common.{◌≡◌, ◌∙◌, sym, ap, subst, arith, true,
 use Rattle.std.proofs.lemmas.Bool.Decides.{nat_tests}
 use Rattle.zim_lex.specs.Classes.{begins_comment}
 use Rattle.zim_lex.specs.Fronts.{IsFrontThat}
-use Rattle.zim_lex.specs.Numbers.{is_number}
+use Rattle.zim_decimal.specs.Token.{is_number_token}
 use Rattle.zim_lex.proofs.FrontLemmas.{first_byte, some_bytes, no_bytes, longest-nil, longest_blanks, longest_comment, longest_name, longest_string, longest_number, longest_signs}
 use Rattle.zim_lex.proofs.pieces.piece_length.Goals as goal
 
@@ -36,14 +36,14 @@ returns-then-is_quote c =
 pub returns-in-Some : goal.returns-in-Some
 returns-in-Some c =
     let comment : begins_comment (first_byte c.args.bytes.now) ≡ false = grind (arith, nat_tests) in
-    let found = subst (IsFrontThat is_number c.args.bytes.now) c.in-Some.is c.number_length.ensures in
+    let found = subst (IsFrontThat is_number_token c.args.bytes.now) c.in-Some.is c.number_length.ensures in
     sym (longest_number c.args.bytes.now c.in-Some.length (some_bytes c.args.bytes.now c.is_empty.result c.is_empty.ensures c.if-is_empty.false) (sym c.is_blank.ensures ∙ c.if-is_blank.false) comment
     (sym c.begins_name.ensures ∙ c.if-begins_name.false) (sym c.is_quote.ensures ∙ c.if-is_quote.false) found)
 
 pub returns-in-None : goal.returns-in-None
 returns-in-None c =
     let comment : begins_comment (first_byte c.args.bytes.now) ≡ false = grind (arith, nat_tests) in
-    let none = subst (IsFrontThat is_number c.args.bytes.now) c.in-None.is c.number_length.ensures in
+    let none = subst (IsFrontThat is_number_token c.args.bytes.now) c.in-None.is c.number_length.ensures in
     c.sign_length.ensures
     ∙ sym (longest_signs c.args.bytes.now (some_bytes c.args.bytes.now c.is_empty.result c.is_empty.ensures c.if-is_empty.false) (sym c.is_blank.ensures ∙ c.if-is_blank.false) comment
     (sym c.begins_name.ensures ∙ c.if-begins_name.false) (sym c.is_quote.ensures ∙ c.if-is_quote.false) none)

@@ -1,7 +1,7 @@
 -- What is taken and what is left are the file that was open, and what is taken and the room are the limit.
 use Rattle.std.proofs.Common.{◌≡◌, ◌+◌, length}
 use Rattle.std.specs.Io.KnownBytes.{prepend_known}
-use Rattle.zim_lex.specs.Reading.{OnlyRead}
+use Rattle.zim_gate.specs.Folder.{OnlyRead}
 use Rattle.zim_lex.proofs.reading.read_lines.Given as goal
 
 abbrev pub invariant-loop-count : goal.invariant-loop-count

@@ -2,7 +2,7 @@
 use Rattle.std.proofs.Common.{◌≡◌, ◌-◌, ◌≤◌, length}
 use Rattle.std.specs.Io.KnownBytes.{prepend_known}
 use Rattle.zim_read.specs.Lines.{most_file_bytes}
-use Rattle.zim_read.specs.Reading.{OnlyRead}
+use Rattle.zim_gate.specs.Folder.{OnlyRead}
 use Rattle.zim_read.proofs.bytes.read_bytes.Given as goal
 
 abbrev pub invariant-loop-count : goal.invariant-loop-count
