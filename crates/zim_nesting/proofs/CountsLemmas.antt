@@ -4,17 +4,17 @@ use Rattle.std.proofs.lemmas.List.Sums.{fold_more}
 use Rattle.std.proofs.lemmas.List.Folds.{fold-map}
 use Rattle.std.specs.Prelude.{fold}
 use Rattle.zim_nesting.specs.declared.counts.Counts.{Counts}
-use Rattle.zim_nesting.specs.Counts.{counted}
-use Rattle.zim_nesting.specs.Depth.{Depth, ◌then◌, followed}
+use Rattle.zim_nesting.specs.Counts.{counts_of}
+use Rattle.zim_nesting.specs.Depth.{Depth, ◌followed_by◌, followed}
 
 -- a piece is what it computes to
-pub given : {r : Counts} (d e : Depth) → r ≡ counted d → d ≡ e → r ≡ counted e
-given d e h is = h ∙ ap counted is
+pub given : {r : Counts} (d e : Depth) → r ≡ counts_of d → d ≡ e → r ≡ counts_of e
+given d e h is = h ∙ ap counts_of is
 
 -- pieces one behind the other, and one more
 pub followed-next : {X : Type 0} (f : X → Depth) (d : Depth) (xs : List X) (i : ℕ) (x : X) → i < length xs → x ≡ get_or xs i x →
-    followed d (map f (take i xs)) then f x ≡ followed d (map f (take (i + 1) xs))
+    followed d (map f (take i xs)) followed_by f x ≡ followed d (map f (take (i + 1) xs))
 followed-next {X} f d xs i x within is =
-    let step : Depth → X → Depth = λ before y. before then f y in
-    ap (λ z. z then f x) (fold-map (λ before piece. before then piece) f d (take i xs)) ∙ ap (λ y. fold step d (take i xs) then f y) is
-    ∙ sym (fold_more step d xs i x within) ∙ sym (fold-map (λ before piece. before then piece) f d (take (i + 1) xs))
+    let step : Depth → X → Depth = λ before y. before followed_by f y in
+    ap (λ z. z followed_by f x) (fold-map (λ before piece. before followed_by piece) f d (take i xs)) ∙ ap (λ y. fold step d (take i xs) followed_by f y) is
+    ∙ sym (fold_more step d xs i x within) ∙ sym (fold-map (λ before piece. before followed_by piece) f d (take (i + 1) xs))

@@ -4,7 +4,7 @@ use Rattle.std.specs.Prelude.{max, nat_lt}
 use Rattle.zim_fault.specs.declared.faults.Place.{Place}
 use Rattle.zim_fault.specs.declared.tokens.Placed.{Placed}
 use Rattle.zim_scan.specs.Nesting.{class_at, open_behind, loops_behind, deepest, first_deep}
-use Rattle.zim_nesting.specs.TokenNesting.{greatest}
+use Rattle.zim_nesting.specs.TokenNesting.{greatest_nesting}
 use Rattle.zim_nesting.specs.Law.{DeepIsPastTheLimit}
 use Rattle.zim_nesting.proofs.PieceLemmas.{greatest-nil, greatest-cons, greatest-low}
 
@@ -25,7 +25,7 @@ kept : (n : ℕ) (p : Place) (later : Option Place) → n ≤ deepest → later 
 kept n p later h none = grind (arith, h, none)
 
 -- no token stands past the limit
-within : (ts : List Placed) (o l : ℕ) → o + l ≤ deepest → first_deep o l ts ≡ None → greatest o l ts ≤ deepest
+within : (ts : List Placed) (o l : ℕ) → o + l ≤ deepest → first_deep o l ts ≡ None → greatest_nesting o l ts ≤ deepest
 within [] o l low none = rw (greatest-nil o l) low
 within (t ∷ rest) o l low none =
     let found = passed (open_behind (class_at t) o + loops_behind (class_at t) rest l) t.place (first_deep (open_behind (class_at t) o) (loops_behind (class_at t) rest l) rest) (sym (first_deep-cons o l t rest) ∙ none) in
@@ -34,10 +34,10 @@ within (t ∷ rest) o l low none =
     both : {m n : ℕ} → m ≤ deepest → n ≤ deepest → max m n ≤ deepest
     both {m} {n} g h = omega (arith, g, h)
 
-below : (ts : List Placed) (o l : ℕ) → greatest o l ts ≤ deepest → first_deep o l ts ≡ None
+below : (ts : List Placed) (o l : ℕ) → greatest_nesting o l ts ≤ deepest → first_deep o l ts ≡ None
 below [] o l h = first_deep-nil o l
 below (t ∷ rest) o l h =
-    let later : greatest (open_behind (class_at t) o) (loops_behind (class_at t) rest l) rest ≤ deepest = second (o + l) (greatest (open_behind (class_at t) o) (loops_behind (class_at t) rest l) rest) (rw (← greatest-cons o l t rest) h) in
+    let later : greatest_nesting (open_behind (class_at t) o) (loops_behind (class_at t) rest l) rest ≤ deepest = second (o + l) (greatest_nesting (open_behind (class_at t) o) (loops_behind (class_at t) rest l) rest) (rw (← greatest-cons o l t rest) h) in
     first_deep-cons o l t rest ∙ kept (open_behind (class_at t) o + loops_behind (class_at t) rest l) t.place (first_deep (open_behind (class_at t) o) (loops_behind (class_at t) rest l) rest)
     (first (greatest-low (open_behind (class_at t) o) (loops_behind (class_at t) rest l) rest) later) (below rest (open_behind (class_at t) o) (loops_behind (class_at t) rest l) later)
   where

@@ -17,7 +17,7 @@ use Rattle.zim_tree.specs.Levels.{Level, Chain, Operands, placed, exclamations, 
 use Rattle.zim_tree.specs.Grammar.{Reads, ReadsOperands, ReadsList, ReadsTuple, ReadsTuples, ReadsIndex, ReadsBody, a_number, a_text, a_truth, an_infinity, a_name, an_item, a_bare_call, a_call, a_function, a_projection, in_parentheses, in_braces, an_if, an_if_with_else, a_postfix, no_power, a_power, no_sign, a_sign, a_big, no_loop_sign, a_loop_sign, a_product, a_loop, a_product_with_loop, a_chain, a_member, no_not, a_not, no_forall, a_forall, no_operand, an_operand, the_last, one_more, a_tuple, the_last_tuple, one_more_tuple, an_index, an_index_with, nothing, the_members, the_tuples, the_choices, a_span, a_span_by}
 use Rattle.zim_scan.specs.Nesting.{begins_paren}
 use Rattle.zim_nesting.specs.Depth as spec
-use Rattle.zim_nesting.specs.Depth.{Depth, ◌then◌, followed, depth, angle_depth, index_depth, body_depth}
+use Rattle.zim_nesting.specs.Depth.{Depth, ◌followed_by◌, followed, depth, angle_depth, index_depth, body_depth}
 use Rattle.zim_nesting.proofs.PieceLemmas.{Nests, opens, is_plain, plain-then, then-plain, as_tokens, as_depth, nothing_nests, loop_before, join, in_brackets, in_brackets_two, in_brackets_three, plain_before, one_plain, plain_behind, joins_plain, function_before, big_before}
 use Rattle.zim_nesting.proofs.DepthLaws.{depth-angle, depth-index, depth-Number, depth-Text, depth-Truth, depth-Infinity, depth-Name, depth-Item, depth-Call, depth-Func, depth-Proj, depth-Paren, depth-Braces, depth-If, depth-Power, depth-Signed, depth-Big, depth-Times, depth-Member, depth-Not, depth-Forall, depth-Empty, depth-Members, depth-Tuples, depth-Those, depth-Span, depth-joined, depth-factorial}
 
@@ -59,11 +59,11 @@ power-plain c e = rw e refl
 product-plain : (c : Class) → c ≡ class.Product → is_plain c ≡ true
 product-plain c e = rw e refl
 
-marks-nest : (places : List Place) → Nests (exclamations places) spec.plain
+marks-nest : (places : List Place) → Nests (exclamations places) spec.no_nesting
 marks-nest [] = nothing_nests
 marks-nest (p ∷ places) = plain_before refl (marks-nest places)
 
-exponent-nests : (signed : Option (Place × Bool)) → Nests (exponent_sign signed) spec.plain
+exponent-nests : (signed : Option (Place × Bool)) → Nests (exponent_sign signed) spec.no_nesting
 exponent-nests None = nothing_nests
 exponent-nests (Some sign) = one_plain (sign-plain sign.1)
 
@@ -73,11 +73,11 @@ index_begins (an_index p (a_tuple q r d) e) rest = refl
 index_begins (an_index_with p q bar (a_tuple r s d) e f) rest = refl
 
 -- a piece and others that add nothing
-pub with_plain : {ts us : List Placed} {d : Depth} → Nests ts d → Nests us spec.plain → Nests (ts ++ us) d
+pub with_plain : {ts us : List Placed} {d : Depth} → Nests ts d → Nests us spec.no_nesting → Nests (ts ++ us) d
 with_plain {ts} {us} {d} g h = as_depth (join g h) (then-plain d g.within)
 
 -- a part that isn't there adds nothing
-pub with_nothing : {ts : List Placed} {d : Depth} → Nests ts d → Nests ts (d then spec.plain)
+pub with_nothing : {ts : List Placed} {d : Depth} → Nests ts d → Nests ts (d followed_by spec.no_nesting)
 with_nothing {ts} {d} g = as_depth g (sym (then-plain d g.within))
 
 -- what begins with no `(` begins with none where more follows

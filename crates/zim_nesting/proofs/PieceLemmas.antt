@@ -6,40 +6,40 @@ use Rattle.zim_tree.specs.declared.classes.Class.{Class}
 use Rattle.zim_tree.specs.declared.classes.Class.TheVariants as class
 use Rattle.zim_tree.specs.Levels.{is_function, is_loop, Chain, products, sums, relations, conjunctions, disjunctions, joins}
 use Rattle.zim_scan.specs.Nesting.{class_at, begins_paren, open_behind, loops_behind}
-use Rattle.zim_nesting.specs.TokenNesting.{greatest}
-use Rattle.zim_nesting.specs.Depth.{Depth, plain, a_loop, inside, ◌then◌}
+use Rattle.zim_nesting.specs.TokenNesting.{greatest_nesting}
+use Rattle.zim_nesting.specs.Depth.{Depth, no_nesting, a_loop, nesting_in_brackets, ◌followed_by◌}
 
 -- the nesting is that of a piece, and then that of what follows, with the piece's loops begun
 pub record Nests (ts : List Placed) (d : Depth) : Type 0 where
   pub within : d.loops ≤ d.deepest
-  pub along : (o l : ℕ) (rest : List Placed) → greatest o l (ts ++ rest) ≡ max (o + l + d.deepest) (greatest o (l + d.loops) rest)
+  pub along : (o l : ℕ) (rest : List Placed) → greatest_nesting o l (ts ++ rest) ≡ max (o + l + d.deepest) (greatest_nesting o (l + d.loops) rest)
 
 no : {A : Type 0} → false ≡ true → A
 no h = absurd (true≢false (sym h))
 
-pub greatest-nil : (o l : ℕ) → greatest o l [] ≡ o + l
-unfolding greatest
+pub greatest-nil : (o l : ℕ) → greatest_nesting o l [] ≡ o + l
+unfolding greatest_nesting
 greatest-nil o l = refl
 
 pub greatest-cons : (o l : ℕ) (t : Placed) (rest : List Placed) →
-    greatest o l (t ∷ rest) ≡ max (o + l) (greatest (open_behind (class_at t) o) (loops_behind (class_at t) rest l) rest)
-unfolding greatest
+    greatest_nesting o l (t ∷ rest) ≡ max (o + l) (greatest_nesting (open_behind (class_at t) o) (loops_behind (class_at t) rest l) rest)
+unfolding greatest_nesting
 greatest-cons o l t rest = refl
 
 -- a token behind which so many are open and so many began
 greatest-step : (o l p m : ℕ) (t : Placed) (rest : List Placed) → open_behind (class_at t) o ≡ p → loops_behind (class_at t) rest l ≡ m →
-    greatest o l (t ∷ rest) ≡ max (o + l) (greatest p m rest)
+    greatest_nesting o l (t ∷ rest) ≡ max (o + l) (greatest_nesting p m rest)
 greatest-step o l p m t rest opened begun = greatest-cons o l t rest
-    ∙ ap (λ x. max (o + l) (greatest x (loops_behind (class_at t) rest l) rest)) opened
-    ∙ ap (λ y. max (o + l) (greatest p y rest)) begun
+    ∙ ap (λ x. max (o + l) (greatest_nesting x (loops_behind (class_at t) rest l) rest)) opened
+    ∙ ap (λ y. max (o + l) (greatest_nesting p y rest)) begun
 
 -- what is open and began at the start counts
-pub greatest-low : (o l : ℕ) (ts : List Placed) → o + l ≤ greatest o l ts
+pub greatest-low : (o l : ℕ) (ts : List Placed) → o + l ≤ greatest_nesting o l ts
 greatest-low o l [] = rw (greatest-nil o l) (omega arith)
 greatest-low o l (t ∷ rest) = rw (greatest-cons o l t rest) (omega arith)
 
-same_loops : (o : ℕ) {l m : ℕ} (rest : List Placed) → l ≡ m → greatest o l rest ≡ greatest o m rest
-same_loops o rest = ap (λ x. greatest o x rest)
+same_loops : (o : ℕ) {l m : ℕ} (rest : List Placed) → l ≡ m → greatest_nesting o l rest ≡ greatest_nesting o m rest
+same_loops o rest = ap (λ x. greatest_nesting o x rest)
 
 made : ℕ → ℕ → Depth
 made l d = record { loops = l; deepest = d }
@@ -47,11 +47,11 @@ made l d = record { loops = l; deepest = d }
 same_depth : {a b c d : ℕ} → a ≡ b → c ≡ d → made a c ≡ made b d
 same_depth {a} {b} {c} {d} p q = ap (λ x. made x c) p ∙ ap (made b) q
 
-pub plain-then : (d : Depth) → plain then d ≡ d
+pub plain-then : (d : Depth) → no_nesting followed_by d ≡ d
 unfolding made
 plain-then d = same_depth (omega arith) (omega arith)
 
-pub then-plain : (d : Depth) → d.loops ≤ d.deepest → d then plain ≡ d
+pub then-plain : (d : Depth) → d.loops ≤ d.deepest → d followed_by no_nesting ≡ d
 unfolding made
 then-plain d h = same_depth (omega arith) (omega (arith, h))
 
@@ -62,10 +62,10 @@ as_tokens {ts} {us} {d} h e = subst (λ z. Nests z d) e h
 pub as_depth : {ts : List Placed} {d e : Depth} → Nests ts d → d ≡ e → Nests ts e
 as_depth {ts} h e = subst (Nests ts) e h
 
-pub nothing_nests : Nests [] plain
+pub nothing_nests : Nests [] no_nesting
 nothing_nests = record {
   within = omega arith;
-  along = λ o l rest. nothing_along (o + l) (greatest o l rest) (greatest o (l + 0) rest) (greatest-low o l rest) (same_loops o rest (omega arith));
+  along = λ o l rest. nothing_along (o + l) (greatest_nesting o l rest) (greatest_nesting o (l + 0) rest) (greatest-low o l rest) (same_loops o rest (omega arith));
 }
   where
     nothing_along : (n g h : ℕ) → n ≤ g → g ≡ h → g ≡ max (n + 0) h
@@ -76,7 +76,7 @@ pub idle_before : {t : Placed} {ts : List Placed} {d : Depth} → ((o : ℕ) →
     ((rest : List Placed) (l : ℕ) → loops_behind (class_at t) (ts ++ rest) l ≡ l) → Nests ts d → Nests (t ∷ ts) d
 idle_before {t} {ts} {d} opened begun h = record {
   within = h.within;
-  along = λ o l rest. greatest-step o l o l t (ts ++ rest) (opened o) (begun rest l) ∙ ap (max (o + l)) (h.along o l rest) ∙ above (o + l) d.deepest (greatest o (l + d.loops) rest);
+  along = λ o l rest. greatest-step o l o l t (ts ++ rest) (opened o) (begun rest l) ∙ ap (max (o + l)) (h.along o l rest) ∙ above (o + l) d.deepest (greatest_nesting o (l + d.loops) rest);
 }
   where
     above : (n k g : ℕ) → max n (max (n + k) g) ≡ max (n + k) g
@@ -84,11 +84,11 @@ idle_before {t} {ts} {d} opened begun h = record {
 
 -- a token that begins a loop where the piece follows
 pub loop_before : {t : Placed} {ts : List Placed} {d : Depth} → ((o : ℕ) → open_behind (class_at t) o ≡ o) →
-    ((rest : List Placed) (l : ℕ) → loops_behind (class_at t) (ts ++ rest) l ≡ l + 1) → Nests ts d → Nests (t ∷ ts) (a_loop then d)
+    ((rest : List Placed) (l : ℕ) → loops_behind (class_at t) (ts ++ rest) l ≡ l + 1) → Nests ts d → Nests (t ∷ ts) (a_loop followed_by d)
 loop_before {t} {ts} {d} opened begun h = record {
   within = loops_within d.loops d.deepest h.within;
   along = λ o l rest. greatest-step o l o (l + 1) t (ts ++ rest) (opened o) (begun rest l) ∙ ap (max (o + l)) (h.along o (l + 1) rest)
-      ∙ above o l d.deepest (greatest o (l + 1 + d.loops) rest) (greatest o (l + (1 + d.loops)) rest) (same_loops o rest (omega arith));
+      ∙ above o l d.deepest (greatest_nesting o (l + 1 + d.loops) rest) (greatest_nesting o (l + (1 + d.loops)) rest) (same_loops o rest (omega arith));
 }
   where
     loops_within : (l k : ℕ) → l ≤ k → 1 + l ≤ max 1 (1 + k)
@@ -98,11 +98,11 @@ loop_before {t} {ts} {d} opened begun h = record {
     above o l k g e h = omega (arith, h)
 
 -- a piece and another behind it
-pub join : {ts us : List Placed} {x y : Depth} → Nests ts x → Nests us y → Nests (ts ++ us) (x then y)
+pub join : {ts us : List Placed} {x y : Depth} → Nests ts x → Nests us y → Nests (ts ++ us) (x followed_by y)
 join {ts} {us} {x} {y} g h = record {
   within = both_within x.loops x.deepest y.loops y.deepest h.within;
-  along = λ o l rest. ap (greatest o l) (append_assoc ts us rest) ∙ g.along o l (us ++ rest) ∙ ap (max (o + l + x.deepest)) (h.along o (l + x.loops) rest)
-      ∙ both o l x.loops x.deepest y.deepest (greatest o (l + x.loops + y.loops) rest) (greatest o (l + (x.loops + y.loops)) rest) (same_loops o rest (omega arith));
+  along = λ o l rest. ap (greatest_nesting o l) (append_assoc ts us rest) ∙ g.along o l (us ++ rest) ∙ ap (max (o + l + x.deepest)) (h.along o (l + x.loops) rest)
+      ∙ both o l x.loops x.deepest y.deepest (greatest_nesting o (l + x.loops + y.loops) rest) (greatest_nesting o (l + (x.loops + y.loops)) rest) (same_loops o rest (omega arith));
 }
   where
     both_within : (lx dx ly dy : ℕ) → ly ≤ dy → lx + ly ≤ max dx (lx + dy)
@@ -155,14 +155,14 @@ close-begins class.End rest l h = refl
 close-begins _ rest l h = no h
 
 -- a piece between a token that opens and one that closes
-pub in_brackets : {t : Placed} (u : Placed) {ts : List Placed} {d : Depth} → opens (class_at t) ≡ true → closes (class_at u) ≡ true → Nests ts d → Nests (t ∷ (ts ++ u ∷ [])) (inside d)
+pub in_brackets : {t : Placed} (u : Placed) {ts : List Placed} {d : Depth} → opens (class_at t) ≡ true → closes (class_at u) ≡ true → Nests ts d → Nests (t ∷ (ts ++ u ∷ [])) (nesting_in_brackets d)
 in_brackets {t} u {ts} {d} opening closing h = record {
   within = one_more d.loops d.deepest h.within;
-  along = λ o l rest. ap (λ z. greatest o l (t ∷ z)) (append_assoc ts (u ∷ []) rest)
+  along = λ o l rest. ap (λ z. greatest_nesting o l (t ∷ z)) (append_assoc ts (u ∷ []) rest)
       ∙ greatest-step o l (o + 1) l t (ts ++ u ∷ rest) (open-up (class_at t) o opening) (open-begins (class_at t) (ts ++ u ∷ rest) l opening)
       ∙ ap (max (o + l)) (h.along (o + 1) l (u ∷ rest)
       ∙ ap (max (o + 1 + l + d.deepest)) (greatest-step (o + 1) (l + d.loops) o (l + d.loops) u rest (close-down (class_at u) o closing) (close-begins (class_at u) rest (l + d.loops) closing)))
-      ∙ around o l d.loops d.deepest (greatest o (l + d.loops) rest) h.within;
+      ∙ around o l d.loops d.deepest (greatest_nesting o (l + d.loops) rest) h.within;
 }
   where
     one_more : (l k : ℕ) → l ≤ k → l ≤ k + 1
@@ -173,12 +173,12 @@ in_brackets {t} u {ts} {d} opening closing h = record {
 
 -- the same, of two parts with a token between them
 pub in_brackets_two : {t : Placed} (u v : Placed) (ts us : List Placed) {d : Depth} → opens (class_at t) ≡ true → closes (class_at u) ≡ true → Nests (ts ++ v ∷ us) d →
-    Nests (t ∷ (ts ++ (v ∷ (us ++ u ∷ [])))) (inside d)
+    Nests (t ∷ (ts ++ (v ∷ (us ++ u ∷ [])))) (nesting_in_brackets d)
 in_brackets_two {t} u v ts us opening closing h = as_tokens (in_brackets u opening closing h) (ap (λ z. t ∷ z) (append_assoc ts (v ∷ us) (u ∷ [])))
 
 -- the same, of three parts with a token between two
 pub in_brackets_three : {t : Placed} (u v w : Placed) (ts us vs : List Placed) {d : Depth} → opens (class_at t) ≡ true → closes (class_at u) ≡ true →
-    Nests (ts ++ (v ∷ (us ++ w ∷ vs))) d → Nests (t ∷ (ts ++ (v ∷ (us ++ (w ∷ (vs ++ u ∷ [])))))) (inside d)
+    Nests (ts ++ (v ∷ (us ++ w ∷ vs))) d → Nests (t ∷ (ts ++ (v ∷ (us ++ (w ∷ (vs ++ u ∷ [])))))) (nesting_in_brackets d)
 in_brackets_three {t} u v w ts us vs opening closing h =
     as_tokens (in_brackets_two u v ts (us ++ w ∷ vs) opening closing h) (ap (λ z. t ∷ (ts ++ v ∷ z)) (append_assoc us (w ∷ vs) (u ∷ [])))
 
@@ -218,7 +218,7 @@ plain-begins _ rest l h = refl
 pub plain_before : {t : Placed} {ts : List Placed} {d : Depth} → is_plain (class_at t) ≡ true → Nests ts d → Nests (t ∷ ts) d
 plain_before {t} {ts} is h = idle_before (λ o. plain-open (class_at t) o is) (λ rest l. plain-begins (class_at t) (ts ++ rest) l is) h
 
-pub one_plain : {t : Placed} → is_plain (class_at t) ≡ true → Nests (t ∷ []) plain
+pub one_plain : {t : Placed} → is_plain (class_at t) ≡ true → Nests (t ∷ []) no_nesting
 one_plain is = plain_before is nothing_nests
 
 pub plain_behind : (t : Placed) {ts : List Placed} {d : Depth} → is_plain (class_at t) ≡ true → Nests ts d → Nests (ts ++ t ∷ []) d
@@ -261,5 +261,5 @@ loop-begins class.Loop rest l h paren = refl
 loop-begins class.MinOrMax rest l h paren = rw paren refl
 loop-begins _ rest l h paren = no h
 
-pub big_before : {t : Placed} {ts : List Placed} {d : Depth} → is_loop (class_at t) ≡ true → ((rest : List Placed) → begins_paren (ts ++ rest) ≡ false) → Nests ts d → Nests (t ∷ ts) (a_loop then d)
+pub big_before : {t : Placed} {ts : List Placed} {d : Depth} → is_loop (class_at t) ≡ true → ((rest : List Placed) → begins_paren (ts ++ rest) ≡ false) → Nests ts d → Nests (t ∷ ts) (a_loop followed_by d)
 big_before {t} {ts} is paren h = loop_before (λ o. loop-open (class_at t) o is) (λ rest l. loop-begins (class_at t) (ts ++ rest) l is (paren rest)) h

@@ -27,8 +27,8 @@ use Rattle.zim_tree.specs.Classes.{token_class, word_class}
 use Rattle.zim_tree.specs.Levels.{placed}
 use Rattle.zim_tree.specs.StatementGrammar.{is_option, is_definition, is_kind, limit_token, goal_word, ReadsOptions, no_option, an_option, ReadsReading, a_reading, ReadsEntries, the_last_entry, one_more_entry, ReadsRows, the_last_row, one_more_row, ReadsTable, a_table, ReadsGiven, not_given, is_given, ReadsSetSide, a_set, a_set_read, a_family, a_set_for_each, sets_listed, ReadsParSide, a_value, a_value_read, a_value_for_each, values_listed, values_in_table, values_read, the_default, ReadsBracket, a_bracket_loop, a_bracket_over, ReadsBrackets, no_bracket, a_bracket, ReadsSetBrackets, filled_or_none, empty_brackets, ReadsKind, no_kind, a_kind, ReadsLimits, no_limit, a_limit, ReadsPrinted, a_printed_value, a_printed_tuple, ReadsPrintedList, the_last_printed, one_more_printed, ReadsDoing, a_print, a_check, for_each, ReadsNames, the_last_name, one_more_name, ReadsParameters, no_parameter, the_parameters, ReadsShape, a_set_statement, a_param_statement, a_var_statement, a_goal_statement, a_subto_statement, a_definition, a_do_statement, ReadsStatement, a_statement}
 use Rattle.zim_scan.specs.Nesting.{class_at}
-use Rattle.zim_nesting.specs.TokenNesting.{greatest, nesting_of}
-use Rattle.zim_nesting.specs.Depth.{Depth, plain, a_loop, inside, ◌then◌, followed, all, depth, index_depth, bracket_depth, brackets_depth, option_depth, reading_depth, entry_depth, row_depth, table_depth, given_depth, set_side_depth, par_side_depth, limit_depth, printed_depth, doing_step, doing_depth, shape_depth}
+use Rattle.zim_nesting.specs.TokenNesting.{greatest_nesting, nesting_of}
+use Rattle.zim_nesting.specs.Depth.{Depth, no_nesting, a_loop, nesting_in_brackets, ◌followed_by◌, followed, all, depth, index_depth, bracket_depth, brackets_depth, option_depth, reading_depth, entry_depth, row_depth, table_depth, given_depth, set_side_depth, par_side_depth, limit_depth, printed_depth, doing_nesting, doing_depth, shape_depth}
 use Rattle.zim_nesting.specs.Law.{NestsAsItsTokens}
 use Rattle.zim_nesting.proofs.PieceLemmas.{Nests, is_plain, plain-then, as_tokens, as_depth, nothing_nests, loop_before, join, in_brackets, plain_before, one_plain, plain_behind, greatest-nil}
 use Rattle.zim_nesting.proofs.DepthLaws.{depth-Func}
@@ -81,7 +81,7 @@ entries-nest (one_more_entry p {ts = ts} {us = vs} {vs = ws} d e f) {us} g = as_
     (ap (λ z. us ++ z) (append_assoc ts vs (placed p (sign_token SComma) ∷ ws)))
 
 row-nests : (p q r : Placed) {ts us : List Placed} {x y : Depth} → is_plain (class_at p) ≡ true → is_plain (class_at q) ≡ true → is_plain (class_at r) ≡ true →
-    Nests ts x → Nests us y → Nests (p ∷ (ts ++ (q ∷ (us ++ r ∷ [])))) (x then y)
+    Nests ts x → Nests us y → Nests (p ∷ (ts ++ (q ∷ (us ++ r ∷ [])))) (x followed_by y)
 row-nests p q r i j k g h = plain_before i (join g (plain_before j (plain_behind r k h)))
 
 rows-nest : {columns : ℕ} {ts : List Placed} {rows : List (List Expr × List Expr)} (r : ReadsRows columns ts rows) {us : List Placed} {d : Depth} → Nests us d → Nests (us ++ ts) (followed d (map row_depth rows))
@@ -125,7 +125,7 @@ set_brackets-nest : {ts : List Placed} {brackets : Option Bracket} → ReadsSetB
 set_brackets-nest (filled_or_none d) = brackets-nest d
 set_brackets-nest (empty_brackets p q) = in_brackets _ refl refl nothing_nests
 
-kind-nests : {ts : List Placed} {kind : Option Word} → ReadsKind ts kind → Nests ts plain
+kind-nests : {ts : List Placed} {kind : Option Word} → ReadsKind ts kind → Nests ts no_nesting
 kind-nests no_kind = nothing_nests
 kind-nests (a_kind p word h) = one_plain (kind-plain word h)
 
@@ -142,8 +142,8 @@ printed_list-nests (the_last_printed d) g = join g (printed-nests d)
 printed_list-nests (one_more_printed p {ts = ts} d e) {us} g =
     comma_on us ts _ (placed p (sign_token SComma)) (printed_list-nests e (join g (plain_behind (placed p (sign_token SComma)) refl (printed-nests d))))
 
-at_doing : (d : Doing-F Doing) → doing_depth (roll-Doing d) ≡ doing_step (map-Doing Doing Depth doing_depth d)
-at_doing = fold-roll-Doing Depth doing_step
+at_doing : (d : Doing-F Doing) → doing_depth (roll-Doing d) ≡ doing_nesting (map-Doing Doing Depth doing_depth d)
+at_doing = fold-roll-Doing Depth doing_nesting
 
 pub depth-Print : (place : Place) (items : List Printed) → doing_depth (Print place items) ≡ all (map printed_depth items)
 depth-Print place items = ap doing_depth (sym (rolls-Print place items)) ∙ at_doing (Doing-F.Print place items)
@@ -151,7 +151,7 @@ depth-Print place items = ap doing_depth (sym (rolls-Print place items)) ∙ at_
 pub depth-Check : (place : Place) (test : Expr) → doing_depth (Check place test) ≡ depth test
 depth-Check place test = ap doing_depth (sym (rolls-Check place test)) ∙ at_doing (Doing-F.Check place test)
 
-pub depth-Forall : (place : Place) (index : Index) (with_do : Bool) (inside : Doing) → doing_depth (Forall place index with_do inside) ≡ a_loop then index_depth index then doing_depth inside
+pub depth-Forall : (place : Place) (index : Index) (with_do : Bool) (inside : Doing) → doing_depth (Forall place index with_do inside) ≡ a_loop followed_by index_depth index followed_by doing_depth inside
 depth-Forall place index with_do inside = ap doing_depth (sym (rolls-Forall place index with_do inside)) ∙ at_doing (Doing-F.Forall place index with_do inside)
 
 doing-nests : {ts : List Placed} {doing : Doing} → ReadsDoing ts doing → Nests ts (doing_depth doing)
@@ -160,11 +160,11 @@ doing-nests (a_check p d) = by (depth-Check p _) (plain_before refl (reads-nest 
 doing-nests (for_each p q with_do d e) = by (depth-Forall p _ with_do _)
     (loop_before (λ o. refl) (λ rest l. refl) (join (index-nests d) (plain_before (separator-plain with_do) (doing-nests e))))
 
-names-nest : {ts : List Placed} {names : List (Place × List ℕ)} → ReadsNames ts names → Nests ts plain
+names-nest : {ts : List Placed} {names : List (Place × List ℕ)} → ReadsNames ts names → Nests ts no_nesting
 names-nest (the_last_name p name) = one_plain refl
 names-nest (one_more_name p q name d) = plain_before refl (plain_before refl (names-nest d))
 
-parameters-nest : {ts : List Placed} {names : List (Place × List ℕ)} → ReadsParameters ts names → Nests ts plain
+parameters-nest : {ts : List Placed} {names : List (Place × List ℕ)} → ReadsParameters ts names → Nests ts no_nesting
 parameters-nest no_parameter = nothing_nests
 parameters-nest (the_parameters d) = names-nest d
 
@@ -189,7 +189,7 @@ shape-nests (a_do_statement p d) = plain_before refl (doing-nests d)
 
 -- what nests as a piece has its nesting
 whole : {ts : List Placed} {d : Depth} → Nests ts d → nesting_of ts ≡ d.deepest
-whole {ts} {d} h = ap (greatest 0 0) (sym (append-nil ts)) ∙ h.along 0 0 [] ∙ ap (max (0 + 0 + d.deepest)) (greatest-nil 0 (0 + d.loops)) ∙ highest d.loops d.deepest h.within
+whole {ts} {d} h = ap (greatest_nesting 0 0) (sym (append-nil ts)) ∙ h.along 0 0 [] ∙ ap (max (0 + 0 + d.deepest)) (greatest-nil 0 (0 + d.loops)) ∙ highest d.loops d.deepest h.within
   where
     highest : (l k : ℕ) → l ≤ k → max (0 + 0 + k) (0 + (0 + l)) ≡ k
     highest l k h = omega (arith, h)

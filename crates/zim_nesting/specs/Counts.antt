@@ -4,9 +4,9 @@ use Rattle.zim_nesting.specs.Depth.{Depth}
 use Rattle.zim_nesting.specs.declared.counts.Counts.{Counts}
 
 -- the last value of a count, at which it stays
-abbrev pub last_count : ℕ
-last_count = 2 ^ 64 - 1
+abbrev pub last_nesting : ℕ
+last_nesting = 2 ^ 64 - 1
 
 -- the counts of a piece: each is the number, or stays at its last value
-abbrev pub counted : Depth → Counts
-counted d = record { loops = min last_count d.loops; deepest = min last_count d.deepest }
+abbrev pub counts_of : Depth → Counts
+counts_of d = record { loops = min last_nesting d.loops; deepest = min last_nesting d.deepest }

@@ -33,98 +33,98 @@ pub record Depth : Type 0 where
   pub deepest : ℕ
 
 -- a piece that opens nothing and begins no loop
-abbrev pub plain : Depth
-plain = record { loops = 0; deepest = 0 }
+abbrev pub no_nesting : Depth
+no_nesting = record { loops = 0; deepest = 0 }
 
 -- the word that begins a loop
 abbrev pub a_loop : Depth
 a_loop = record { loops = 1; deepest = 1 }
 
 -- a piece in brackets, or between `if` and `end`
-abbrev pub inside : Depth → Depth
-inside piece = record { loops = piece.loops; deepest = piece.deepest + 1 }
+abbrev pub nesting_in_brackets : Depth → Depth
+nesting_in_brackets piece = record { loops = piece.loops; deepest = piece.deepest + 1 }
 
-infixr 20 ◌then◌
+infixr 20 ◌followed_by◌
 -- a piece and another behind it, in which the loops of the first still count
-abbrev pub ◌then◌ : Depth → Depth → Depth
-x then y = record { loops = x.loops + y.loops; deepest = max x.deepest (x.loops + y.deepest) }
+abbrev pub ◌followed_by◌ : Depth → Depth → Depth
+x followed_by y = record { loops = x.loops + y.loops; deepest = max x.deepest (x.loops + y.deepest) }
 
 -- a piece, and others one behind the other
 abbrev pub followed : Depth → List Depth → Depth
-followed = fold (λ before piece. before then piece)
+followed = fold (λ before piece. before followed_by piece)
 
 -- pieces one behind the other
 abbrev pub all : List Depth → Depth
-all = followed plain
+all = followed no_nesting
 
 -- a piece, if there is one
-abbrev pub given : Option Depth → Depth
-given None = plain
-given (Some piece) = piece
+abbrev pub nesting_if_given : Option Depth → Depth
+nesting_if_given None = no_nesting
+nesting_if_given (Some piece) = piece
 
 -- a condition, if there is one
-abbrev pub condition : Option (Bool × Depth) → Depth
-condition None = plain
-condition (Some c) = c.1
+abbrev pub condition_nesting : Option (Bool × Depth) → Depth
+condition_nesting None = no_nesting
+condition_nesting (Some c) = c.1
 
 -- an expression whose parts nest so deep
-abbrev pub expr_step : Expr-F Depth Depth Depth Depth → Depth
-expr_step (Expr-F.Number place digits) = plain
-expr_step (Expr-F.Text place text double) = plain
-expr_step (Expr-F.Truth place truth) = plain
-expr_step (Expr-F.Infinity place) = plain
-expr_step (Expr-F.Name place name) = plain
-expr_step (Expr-F.Item place name index) = inside (all index)
-expr_step (Expr-F.Call place name given) = inside (all given)
-expr_step (Expr-F.Func place function given) = inside (all given)
-expr_step (Expr-F.Proj place set positions) = inside (set then positions)
-expr_step (Expr-F.Paren place inner) = inside inner
-expr_step (Expr-F.Braces place body) = inside body
-expr_step (Expr-F.If place vif test branch otherwise) = inside (test then branch then given otherwise)
-expr_step (Expr-F.Factorial operand places) = operand
-expr_step (Expr-F.Power place sign base signed exponent) = base then exponent
-expr_step (Expr-F.Signed place minus operand) = operand
-expr_step (Expr-F.Big place loop index with_do operand) = a_loop then index then operand
-expr_step (Expr-F.Times first others) = followed first (map (λ x. x.2) others)
-expr_step (Expr-F.Plus first others) = followed first (map (λ x. x.2) others)
-expr_step (Expr-F.Compare first others) = followed first (map (λ x. x.2) others)
-expr_step (Expr-F.Member place tuple set) = tuple then set
-expr_step (Expr-F.Not place operand) = operand
-expr_step (Expr-F.And first others) = followed first (map (λ x. x.1) others)
-expr_step (Expr-F.Or first others) = followed first (map (λ x. x.2) others)
-expr_step (Expr-F.Forall place index with_do body) = a_loop then index then body
+abbrev pub expr_nesting : Expr-F Depth Depth Depth Depth → Depth
+expr_nesting (Expr-F.Number place digits) = no_nesting
+expr_nesting (Expr-F.Text place text double) = no_nesting
+expr_nesting (Expr-F.Truth place truth) = no_nesting
+expr_nesting (Expr-F.Infinity place) = no_nesting
+expr_nesting (Expr-F.Name place name) = no_nesting
+expr_nesting (Expr-F.Item place name index) = nesting_in_brackets (all index)
+expr_nesting (Expr-F.Call place name nesting_if_given) = nesting_in_brackets (all nesting_if_given)
+expr_nesting (Expr-F.Func place function nesting_if_given) = nesting_in_brackets (all nesting_if_given)
+expr_nesting (Expr-F.Proj place set positions) = nesting_in_brackets (set followed_by positions)
+expr_nesting (Expr-F.Paren place inner) = nesting_in_brackets inner
+expr_nesting (Expr-F.Braces place body) = nesting_in_brackets body
+expr_nesting (Expr-F.If place vif test branch otherwise) = nesting_in_brackets (test followed_by branch followed_by nesting_if_given otherwise)
+expr_nesting (Expr-F.Factorial operand places) = operand
+expr_nesting (Expr-F.Power place sign base signed exponent) = base followed_by exponent
+expr_nesting (Expr-F.Signed place minus operand) = operand
+expr_nesting (Expr-F.Big place loop index with_do operand) = a_loop followed_by index followed_by operand
+expr_nesting (Expr-F.Times first others) = followed first (map (λ x. x.2) others)
+expr_nesting (Expr-F.Plus first others) = followed first (map (λ x. x.2) others)
+expr_nesting (Expr-F.Compare first others) = followed first (map (λ x. x.2) others)
+expr_nesting (Expr-F.Member place tuple set) = tuple followed_by set
+expr_nesting (Expr-F.Not place operand) = operand
+expr_nesting (Expr-F.And first others) = followed first (map (λ x. x.1) others)
+expr_nesting (Expr-F.Or first others) = followed first (map (λ x. x.2) others)
+expr_nesting (Expr-F.Forall place index with_do body) = a_loop followed_by index followed_by body
 
 -- a tuple: `<` and `>` are no brackets here
-abbrev pub angle_step : Angle-F Depth Depth Depth Depth → Depth
-angle_step tuple = all tuple.items
+abbrev pub angle_nesting : Angle-F Depth Depth Depth Depth → Depth
+angle_nesting tuple = all tuple.items
 
 -- an index with its condition
-abbrev pub index_step : Index-F Depth Depth Depth Depth → Depth
-index_step index = index.tuple then index.set then condition index.cond
+abbrev pub index_nesting : Index-F Depth Depth Depth Depth → Depth
+index_nesting index = index.tuple followed_by index.set followed_by condition_nesting index.cond
 
 -- what stands in braces
-abbrev pub body_step : Body-F Depth Depth Depth Depth → Depth
-body_step Body-F.Empty = plain
-body_step (Body-F.Members members) = all members
-body_step (Body-F.Tuples tuples) = all tuples
-body_step (Body-F.Those index) = index
-body_step (Body-F.Span from with_to to by) = from then to then given by
+abbrev pub body_nesting : Body-F Depth Depth Depth Depth → Depth
+body_nesting Body-F.Empty = no_nesting
+body_nesting (Body-F.Members members) = all members
+body_nesting (Body-F.Tuples tuples) = all tuples
+body_nesting (Body-F.Those index) = index
+body_nesting (Body-F.Span from with_to to by) = from followed_by to followed_by nesting_if_given by
 
 -- how deep an expression nests
 abbrev pub depth : Expr → Depth
-depth = fold-Expr Depth Depth Depth Depth body_step expr_step angle_step index_step
+depth = fold-Expr Depth Depth Depth Depth body_nesting expr_nesting angle_nesting index_nesting
 
 -- how deep a tuple nests
 abbrev pub angle_depth : Angle → Depth
-angle_depth = fold-Angle Depth Depth Depth Depth body_step expr_step angle_step index_step
+angle_depth = fold-Angle Depth Depth Depth Depth body_nesting expr_nesting angle_nesting index_nesting
 
 -- how deep an index nests
 abbrev pub index_depth : Index → Depth
-index_depth = fold-Index Depth Depth Depth Depth body_step expr_step angle_step index_step
+index_depth = fold-Index Depth Depth Depth Depth body_nesting expr_nesting angle_nesting index_nesting
 
 -- how deep what stands in braces nests, without the braces
 abbrev pub body_depth : Body → Depth
-body_depth = fold-Body Depth Depth Depth Depth body_step expr_step angle_step index_step
+body_depth = fold-Body Depth Depth Depth Depth body_nesting expr_nesting angle_nesting index_nesting
 
 -- a piece, and operands behind operators that bind alike
 abbrev pub operations_depth : Depth → List (Place × Token × Expr) → Depth
@@ -144,18 +144,18 @@ disjuncts_depth first others = followed first (map (λ x. depth x.2) others)
 
 -- the condition of an index, if there is one
 abbrev pub condition_depth : Option (Bool × Expr) → Depth
-condition_depth None = plain
+condition_depth None = no_nesting
 condition_depth (Some c) = depth c.1
 
 -- what stands in brackets behind a declared name, with the brackets
 abbrev pub bracket_depth : Bracket → Depth
-bracket_depth Empty = inside plain
-bracket_depth (Loop index) = inside (index_depth index)
-bracket_depth (Over set) = inside (depth set)
+bracket_depth Empty = nesting_in_brackets no_nesting
+bracket_depth (Loop index) = nesting_in_brackets (index_depth index)
+bracket_depth (Over set) = nesting_in_brackets (depth set)
 
 -- the brackets, if there are any
 abbrev pub brackets_depth : Option Bracket → Depth
-brackets_depth None = plain
+brackets_depth None = no_nesting
 brackets_depth (Some bracket) = bracket_depth bracket
 
 -- an option of a `read`: its operand
@@ -164,37 +164,37 @@ option_depth x = depth x.2
 
 -- a `read` with its options
 abbrev pub reading_depth : Reading → Depth
-reading_depth r = depth r.file then depth r.template then all (map option_depth r.options)
+reading_depth r = depth r.file followed_by depth r.template followed_by all (map option_depth r.options)
 
 -- an index and what belongs to it
 abbrev pub entry_depth : Angle × Expr → Depth
-entry_depth entry = angle_depth entry.0 then depth entry.1
+entry_depth entry = angle_depth entry.0 followed_by depth entry.1
 
 -- a row of a table: its items and its values
 abbrev pub row_depth : List Expr × List Expr → Depth
-row_depth row = all (map depth row.0) then all (map depth row.1)
+row_depth row = all (map depth row.0) followed_by all (map depth row.1)
 
 -- a table: its head and its rows
 abbrev pub table_depth : Table → Depth
-table_depth table = all (map depth table.head) then all (map row_depth table.rows)
+table_depth table = all (map depth table.head) followed_by all (map row_depth table.rows)
 
 -- a default, a priority or a start value, if there is one
 abbrev pub given_depth : Option (Place × Expr) → Depth
-given_depth None = plain
+given_depth None = no_nesting
 given_depth (Some x) = depth x.1
 
 -- the right side of a set: a `read` stands in braces there
 abbrev pub set_side_depth : SetSide → Depth
 set_side_depth (set_side.Value value) = depth value
-set_side_depth (set_side.Read reading) = inside (reading_depth reading)
+set_side_depth (set_side.Read reading) = nesting_in_brackets (reading_depth reading)
 set_side_depth (set_side.Entries entries) = all (map entry_depth entries)
 
 -- the right side of a parameter
 abbrev pub par_side_depth : ParSide → Depth
 par_side_depth (par_side.Value value) = depth value
-par_side_depth (par_side.Read reading default) = reading_depth reading then given_depth default
-par_side_depth (par_side.Entries entries default) = all (map entry_depth entries) then given_depth default
-par_side_depth (par_side.Table table default) = table_depth table then given_depth default
+par_side_depth (par_side.Read reading default) = reading_depth reading followed_by given_depth default
+par_side_depth (par_side.Entries entries default) = all (map entry_depth entries) followed_by given_depth default
+par_side_depth (par_side.Table table default) = table_depth table followed_by given_depth default
 par_side_depth (par_side.Default place default) = depth default
 
 -- a bound of a variable: its side
@@ -207,24 +207,24 @@ printed_depth (Value value) = depth value
 printed_depth (Tuple tuple) = angle_depth tuple
 
 -- what a `do` does, where it is known how deep nests what it does for each choice
-abbrev pub doing_step : Doing-F Depth → Depth
-doing_step (Doing-F.Print place items) = all (map printed_depth items)
-doing_step (Doing-F.Check place test) = depth test
-doing_step (Doing-F.Forall place index with_do body) = a_loop then index_depth index then body
+abbrev pub doing_nesting : Doing-F Depth → Depth
+doing_nesting (Doing-F.Print place items) = all (map printed_depth items)
+doing_nesting (Doing-F.Check place test) = depth test
+doing_nesting (Doing-F.Forall place index with_do body) = a_loop followed_by index_depth index followed_by body
 
 -- how deep nests what a `do` does
 abbrev pub doing_depth : Doing → Depth
-doing_depth = fold-Doing Depth doing_step
+doing_depth = fold-Doing Depth doing_nesting
 
 -- a statement of this shape: a function's parameters stand in brackets
 abbrev pub shape_depth : Shape → Depth
-shape_depth (Set brackets side) = brackets_depth brackets then set_side_depth side
-shape_depth (Param brackets side) = brackets_depth brackets then par_side_depth side
+shape_depth (Set brackets side) = brackets_depth brackets followed_by set_side_depth side
+shape_depth (Param brackets side) = brackets_depth brackets followed_by par_side_depth side
 shape_depth (Var brackets kind limits priority startval) =
-    brackets_depth brackets then all (map limit_depth limits) then given_depth priority then given_depth startval
+    brackets_depth brackets followed_by all (map limit_depth limits) followed_by given_depth priority followed_by given_depth startval
 shape_depth (Goal maximize objective) = depth objective
 shape_depth (Subto constraint) = depth constraint
-shape_depth (Define result parameters body) = inside plain then depth body
+shape_depth (Define result parameters body) = nesting_in_brackets no_nesting followed_by depth body
 shape_depth (Do doing) = doing_depth doing
 
 -- how deep a statement nests

@@ -1,7 +1,7 @@
 ghost use Rattle.std.specs.Prelude.{◌≡◌};
-ghost use Rattle.zim_nesting.specs.Counts.{counted};
+ghost use Rattle.zim_nesting.specs.Counts.{counts_of};
 ghost use Rattle.zim_nesting.specs.Depth as spec;
-ghost use Rattle.zim_nesting.specs.Depth.{Depth, ◌then◌};
+ghost use Rattle.zim_nesting.specs.Depth.{Depth, ◌followed_by◌};
 
 /// What a piece of a statement adds to the nesting. Both counts stay at their last value.
 #[derive(Clone, Copy, Debug)]
@@ -15,7 +15,7 @@ pub(crate) struct Counts {
 impl Counts {
     /// A piece that opens nothing and begins no loop.
     pub(crate) fn plain() -> Self
-        ensures { result ≡ counted spec.plain }
+        ensures { result ≡ counts_of spec.no_nesting }
     {
         Self {
             loops: 0,
@@ -25,7 +25,7 @@ impl Counts {
 
     /// The word that begins a loop.
     pub(crate) fn a_loop() -> Self
-        ensures { result ≡ counted spec.a_loop }
+        ensures { result ≡ counts_of spec.a_loop }
     {
         Self {
             loops: 1,
@@ -35,7 +35,7 @@ impl Counts {
 
     /// The piece in brackets, or between `if` and `end`.
     pub(crate) fn inside(self) -> Self
-        ensures { (d : Depth) → self ≡ counted d → result ≡ counted (spec.inside d) }
+        ensures { (d : Depth) → self ≡ counts_of d → result ≡ counts_of (spec.nesting_in_brackets d) }
     {
         Self {
             loops: self.loops,
@@ -45,7 +45,7 @@ impl Counts {
 
     /// The piece and another behind it.
     pub(crate) fn then(self, next: Self) -> Self
-        ensures { (d e : Depth) → self ≡ counted d → next ≡ counted e → result ≡ counted (d then e) }
+        ensures { (d e : Depth) → self ≡ counts_of d → next ≡ counts_of e → result ≡ counts_of (d followed_by e) }
     {
         let behind = self.loops.saturating_add(next.deepest);
         Self {

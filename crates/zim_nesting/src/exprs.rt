@@ -1,5 +1,5 @@
 ghost use Rattle.std.specs.Prelude.{◌≡◌, map, option_map};
-ghost use Rattle.zim_nesting.specs.Counts.{counted};
+ghost use Rattle.zim_nesting.specs.Counts.{counts_of};
 ghost use Rattle.zim_nesting.specs.Depth as spec;
 ghost use Rattle.zim_nesting.specs.Depth.{Depth};
 
@@ -11,7 +11,7 @@ use zim_tree::{Angle, Body, Expr, Index};
 /// How deep an expression nests.
 #[cycle(depth)]
 pub(crate) fn depth_of_expr(tree: &Expr) -> Counts
-    ensures { result ≡ counted (spec.depth tree.now) }
+    ensures { result ≡ counts_of (spec.depth tree.now) }
 {
     match tree {
         Expr::Number(_, _)
@@ -70,7 +70,7 @@ pub(crate) fn depth_of_expr(tree: &Expr) -> Counts
 /// How deep a part nests, if there is one.
 #[cycle(depth)]
 fn depth_of_given(part: &Option<Boxed<Expr>>) -> Counts
-    ensures { result ≡ counted (spec.given (option_map spec.depth part.now)) }
+    ensures { result ≡ counts_of (spec.nesting_if_given (option_map spec.depth part.now)) }
 {
     match part {
         Some(tree) => depth_of_expr(tree.get()),
@@ -81,7 +81,7 @@ fn depth_of_given(part: &Option<Boxed<Expr>>) -> Counts
 /// How deep expressions nest that stand one behind the other.
 #[cycle(depth)]
 pub(crate) fn depth_of_exprs(trees: &[Expr]) -> Counts
-    ensures { result ≡ counted (spec.all (map spec.depth trees.now)) }
+    ensures { result ≡ counts_of (spec.all (map spec.depth trees.now)) }
 {
     let mut counts = Counts::plain();
     for tree in trees {
@@ -93,7 +93,7 @@ pub(crate) fn depth_of_exprs(trees: &[Expr]) -> Counts
 /// How deep tuples nest that stand one behind the other.
 #[cycle(depth)]
 fn depth_of_angles(trees: &[Angle]) -> Counts
-    ensures { result ≡ counted (spec.all (map spec.angle_depth trees.now)) }
+    ensures { result ≡ counts_of (spec.all (map spec.angle_depth trees.now)) }
 {
     let mut counts = Counts::plain();
     for tree in trees {
@@ -105,7 +105,7 @@ fn depth_of_angles(trees: &[Angle]) -> Counts
 /// How deep a piece nests with the operands behind operators.
 #[cycle(depth)]
 fn depth_of_operations(first: Counts, others: &[(Place, Token, Expr)]) -> Counts
-    ensures { (d : Depth) → first ≡ counted d → result ≡ counted (spec.operations_depth d others.now) }
+    ensures { (d : Depth) → first ≡ counts_of d → result ≡ counts_of (spec.operations_depth d others.now) }
 {
     let mut counts = first;
     for (_place, _token, tree) in others {
@@ -117,7 +117,7 @@ fn depth_of_operations(first: Counts, others: &[(Place, Token, Expr)]) -> Counts
 /// How deep a piece nests with the operands behind relations.
 #[cycle(depth)]
 fn depth_of_relations(first: Counts, others: &[(Place, Relation, Expr)]) -> Counts
-    ensures { (d : Depth) → first ≡ counted d → result ≡ counted (spec.relations_depth d others.now) }
+    ensures { (d : Depth) → first ≡ counts_of d → result ≡ counts_of (spec.relations_depth d others.now) }
 {
     let mut counts = first;
     for (_place, _relation, tree) in others {
@@ -129,7 +129,7 @@ fn depth_of_relations(first: Counts, others: &[(Place, Relation, Expr)]) -> Coun
 /// How deep a piece nests with the operands behind `and`.
 #[cycle(depth)]
 fn depth_of_conjuncts(first: Counts, others: &[(Place, Expr)]) -> Counts
-    ensures { (d : Depth) → first ≡ counted d → result ≡ counted (spec.conjuncts_depth d others.now) }
+    ensures { (d : Depth) → first ≡ counts_of d → result ≡ counts_of (spec.conjuncts_depth d others.now) }
 {
     let mut counts = first;
     for (_place, tree) in others {
@@ -141,7 +141,7 @@ fn depth_of_conjuncts(first: Counts, others: &[(Place, Expr)]) -> Counts
 /// How deep a piece nests with the operands behind `or` and `xor`.
 #[cycle(depth)]
 fn depth_of_disjuncts(first: Counts, others: &[(Place, bool, Expr)]) -> Counts
-    ensures { (d : Depth) → first ≡ counted d → result ≡ counted (spec.disjuncts_depth d others.now) }
+    ensures { (d : Depth) → first ≡ counts_of d → result ≡ counts_of (spec.disjuncts_depth d others.now) }
 {
     let mut counts = first;
     for (_place, _xor, tree) in others {
@@ -153,7 +153,7 @@ fn depth_of_disjuncts(first: Counts, others: &[(Place, bool, Expr)]) -> Counts
 /// How deep a tuple nests.
 #[cycle(depth)]
 pub(crate) fn depth_of_angle(tuple: &Angle) -> Counts
-    ensures { result ≡ counted (spec.angle_depth tuple.now) }
+    ensures { result ≡ counts_of (spec.angle_depth tuple.now) }
 {
     depth_of_exprs(tuple.items.as_slice())
 }
@@ -161,7 +161,7 @@ pub(crate) fn depth_of_angle(tuple: &Angle) -> Counts
 /// How deep an index nests, with its condition.
 #[cycle(depth)]
 pub(crate) fn depth_of_index(index: &Index) -> Counts
-    ensures { result ≡ counted (spec.index_depth index.now) }
+    ensures { result ≡ counts_of (spec.index_depth index.now) }
 {
     let rest = depth_of_expr(index.set.get()).then(depth_of_condition(&index.cond));
     depth_of_angle(&index.tuple).then(rest)
@@ -170,7 +170,7 @@ pub(crate) fn depth_of_index(index: &Index) -> Counts
 /// How deep the condition of an index nests, if there is one.
 #[cycle(depth)]
 fn depth_of_condition(condition: &Option<(bool, Boxed<Expr>)>) -> Counts
-    ensures { result ≡ counted (spec.condition_depth condition.now) }
+    ensures { result ≡ counts_of (spec.condition_depth condition.now) }
 {
     match condition {
         Some((_, tree)) => depth_of_expr(tree.get()),
@@ -181,7 +181,7 @@ fn depth_of_condition(condition: &Option<(bool, Boxed<Expr>)>) -> Counts
 /// How deep what stands in braces nests.
 #[cycle(depth)]
 fn depth_of_body(body: &Body) -> Counts
-    ensures { result ≡ counted (spec.body_depth body.now) }
+    ensures { result ≡ counts_of (spec.body_depth body.now) }
 {
     match body {
         Body::Empty => Counts::plain(),

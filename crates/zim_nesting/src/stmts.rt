@@ -1,5 +1,5 @@
 ghost use Rattle.std.specs.Prelude.{◌≡◌, map, min};
-ghost use Rattle.zim_nesting.specs.Counts.{counted};
+ghost use Rattle.zim_nesting.specs.Counts.{counts_of};
 ghost use Rattle.zim_nesting.specs.Depth as spec;
 
 use crate::counts::Counts;
@@ -22,7 +22,7 @@ pub fn nesting(statement: &Stmt) -> u64
 
 /// How deep a statement of this shape nests.
 fn depth_of_shape(shape: &Shape) -> Counts
-    ensures { result ≡ counted (spec.shape_depth shape.now) }
+    ensures { result ≡ counts_of (spec.shape_depth shape.now) }
 {
     match shape {
         Shape::Set(brackets, side) => depth_of_brackets(brackets).then(depth_of_set_side(side)),
@@ -41,7 +41,7 @@ fn depth_of_shape(shape: &Shape) -> Counts
 
 /// How deep the brackets of a declaration nest, if it has any.
 fn depth_of_brackets(brackets: &Option<Bracket>) -> Counts
-    ensures { result ≡ counted (spec.brackets_depth brackets.now) }
+    ensures { result ≡ counts_of (spec.brackets_depth brackets.now) }
 {
     match brackets {
         Some(bracket) => depth_of_bracket(bracket),
@@ -51,7 +51,7 @@ fn depth_of_brackets(brackets: &Option<Bracket>) -> Counts
 
 /// How deep brackets nest.
 fn depth_of_bracket(bracket: &Bracket) -> Counts
-    ensures { result ≡ counted (spec.bracket_depth bracket.now) }
+    ensures { result ≡ counts_of (spec.bracket_depth bracket.now) }
 {
     match bracket {
         Bracket::Empty => Counts::plain().inside(),
@@ -62,7 +62,7 @@ fn depth_of_bracket(bracket: &Bracket) -> Counts
 
 /// How deep a default, a priority or a start value nests, if there is one.
 fn depth_of_given(given: &Option<(Place, Boxed<Expr>)>) -> Counts
-    ensures { result ≡ counted (spec.given_depth given.now) }
+    ensures { result ≡ counts_of (spec.given_depth given.now) }
 {
     match given {
         Some((_, operand)) => depth_of_expr(operand.get()),
@@ -72,7 +72,7 @@ fn depth_of_given(given: &Option<(Place, Boxed<Expr>)>) -> Counts
 
 /// How deep the right side of a set nests.
 fn depth_of_set_side(side: &SetSide) -> Counts
-    ensures { result ≡ counted (spec.set_side_depth side.now) }
+    ensures { result ≡ counts_of (spec.set_side_depth side.now) }
 {
     match side {
         SetSide::Value(value) => depth_of_expr(value.get()),
@@ -83,7 +83,7 @@ fn depth_of_set_side(side: &SetSide) -> Counts
 
 /// How deep the right side of a parameter nests.
 fn depth_of_par_side(side: &ParSide) -> Counts
-    ensures { result ≡ counted (spec.par_side_depth side.now) }
+    ensures { result ≡ counts_of (spec.par_side_depth side.now) }
 {
     match side {
         ParSide::Value(value) => depth_of_expr(value.get()),
@@ -98,14 +98,14 @@ fn depth_of_par_side(side: &ParSide) -> Counts
 
 /// How deep an entry nests: an index and what belongs to it.
 fn depth_of_entry(entry: &(Angle, Expr)) -> Counts
-    ensures { result ≡ counted (spec.entry_depth entry.now) }
+    ensures { result ≡ counts_of (spec.entry_depth entry.now) }
 {
     depth_of_angle(&entry.0).then(depth_of_expr(&entry.1))
 }
 
 /// How deep entries nest that stand one behind the other.
 fn depth_of_entries(entries: &[(Angle, Expr)]) -> Counts
-    ensures { result ≡ counted (spec.all (map spec.entry_depth entries.now)) }
+    ensures { result ≡ counts_of (spec.all (map spec.entry_depth entries.now)) }
 {
     let mut counts = Counts::plain();
     for entry in entries {
@@ -116,14 +116,14 @@ fn depth_of_entries(entries: &[(Angle, Expr)]) -> Counts
 
 /// How deep a row of a table nests.
 fn depth_of_row(items: &Items<Expr>, values: &Items<Expr>) -> Counts
-    ensures { result ≡ counted (spec.row_depth (items.now, values.now)) }
+    ensures { result ≡ counts_of (spec.row_depth (items.now, values.now)) }
 {
     depth_of_exprs(items.as_slice()).then(depth_of_exprs(values.as_slice()))
 }
 
 /// How deep the rows of a table nest.
 fn depth_of_rows(rows: &[(Items<Expr>, Items<Expr>)]) -> Counts
-    ensures { result ≡ counted (spec.all (map spec.row_depth rows.now)) }
+    ensures { result ≡ counts_of (spec.all (map spec.row_depth rows.now)) }
 {
     let mut counts = Counts::plain();
     for (items, values) in rows {
@@ -134,14 +134,14 @@ fn depth_of_rows(rows: &[(Items<Expr>, Items<Expr>)]) -> Counts
 
 /// How deep a table nests.
 fn depth_of_table(table: &Table) -> Counts
-    ensures { result ≡ counted (spec.table_depth table.now) }
+    ensures { result ≡ counts_of (spec.table_depth table.now) }
 {
     depth_of_exprs(table.head.as_slice()).then(depth_of_rows(table.rows.as_slice()))
 }
 
 /// How deep the bounds of a variable nest.
 fn depth_of_limits(limits: &[Limit]) -> Counts
-    ensures { result ≡ counted (spec.all (map spec.limit_depth limits.now)) }
+    ensures { result ≡ counts_of (spec.all (map spec.limit_depth limits.now)) }
 {
     let mut counts = Counts::plain();
     for limit in limits {
@@ -152,7 +152,7 @@ fn depth_of_limits(limits: &[Limit]) -> Counts
 
 /// How deep the options of a `read` nest.
 fn depth_of_options(options: &[(Place, Word, Expr)]) -> Counts
-    ensures { result ≡ counted (spec.all (map spec.option_depth options.now)) }
+    ensures { result ≡ counts_of (spec.all (map spec.option_depth options.now)) }
 {
     let mut counts = Counts::plain();
     for (_place, _word, operand) in options {
@@ -163,7 +163,7 @@ fn depth_of_options(options: &[(Place, Word, Expr)]) -> Counts
 
 /// How deep a `read` nests, with its options.
 fn depth_of_reading(reading: &Reading) -> Counts
-    ensures { result ≡ counted (spec.reading_depth reading.now) }
+    ensures { result ≡ counts_of (spec.reading_depth reading.now) }
 {
     let rest = depth_of_expr(reading.template.get()).then(depth_of_options(
         reading.options.as_slice(),
@@ -173,7 +173,7 @@ fn depth_of_reading(reading: &Reading) -> Counts
 
 /// How deep nests what a `print` prints.
 fn depth_of_printed(item: &Printed) -> Counts
-    ensures { result ≡ counted (spec.printed_depth item.now) }
+    ensures { result ≡ counts_of (spec.printed_depth item.now) }
 {
     match item {
         Printed::Value(value) => depth_of_expr(value.get()),
@@ -183,7 +183,7 @@ fn depth_of_printed(item: &Printed) -> Counts
 
 /// How deep nests all that a `print` prints.
 fn depth_of_print(items: &[Printed]) -> Counts
-    ensures { result ≡ counted (spec.all (map spec.printed_depth items.now)) }
+    ensures { result ≡ counts_of (spec.all (map spec.printed_depth items.now)) }
 {
     let mut counts = Counts::plain();
     for item in items {
@@ -194,7 +194,7 @@ fn depth_of_print(items: &[Printed]) -> Counts
 
 /// How deep nests what a `do` does.
 fn depth_of_doing(doing: &Doing) -> Counts
-    ensures { result ≡ counted (spec.doing_depth doing.now) }
+    ensures { result ≡ counts_of (spec.doing_depth doing.now) }
 {
     match doing {
         Doing::Print(_, items) => depth_of_print(items.as_slice()),

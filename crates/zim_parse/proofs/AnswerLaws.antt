@@ -13,17 +13,17 @@ use Rattle.zim_scan.specs.Nesting.{first_deep}
 use Rattle.zim_scan.specs.Refused.{first_refused}
 use Rattle.zim_parse.specs.AnswerLaw.{HasAnswer, accepted, refused, TokensHaveAnswer}
 use Rattle.zim_parse.specs.Answers.{fault_at, an_unsupported_word, too_deep, no_statement}
-use Rattle.zim_parse.specs.StatementParser.{statement_of}
+use Rattle.zim_parse.specs.StatementParser.{whole_statement}
 use Rattle.zim_parse.proofs.WholeParse.{whole_read, nothing_read, too_little_read}
 
 -- tokens without a refused word that aren't too deep
 read_or_not : (t : Placed) (rest : List Placed) → first_refused (t ∷ rest) ≡ None → first_deep 0 0 (t ∷ rest) ≡ None → HasAnswer (t ∷ rest)
-read_or_not t rest supported shallow = by (statement_of (parse (length (t ∷ rest))) (t ∷ rest)) refl
+read_or_not t rest supported shallow = by (whole_statement (parse (length (t ∷ rest))) (t ∷ rest)) refl
   where
     none : ((s : Stmt) → ReadsStatement (t ∷ rest) s → ⊥) → HasAnswer (t ∷ rest)
     none nothing = refused (fault_at t.place Syntax) (no_statement supported shallow nothing)
 
-    by : (o : Option (Stmt × List Placed)) → statement_of (parse (length (t ∷ rest))) (t ∷ rest) ≡ o → HasAnswer (t ∷ rest)
+    by : (o : Option (Stmt × List Placed)) → whole_statement (parse (length (t ∷ rest))) (t ∷ rest) ≡ o → HasAnswer (t ∷ rest)
     by None is = none (nothing_read (t ∷ rest) is)
     by (Some (s, [])) is = accepted s (record { supported = supported; not_deep = shallow; reads = whole_read (t ∷ rest) s [] is refl })
     by (Some (s, u ∷ left)) is = none (too_little_read (t ∷ rest) s (u ∷ left) is (λ e. absurd (omega (arith, e))))

@@ -25,7 +25,7 @@ use Rattle.zim_tree.specs.StatementGrammar.{word_at, ReadsGiven, ReadsRows, the_
 use Rattle.zim_parse_expression.specs.Parser.{Inner, Parsed, and_then, expect, arguments}
 use Rattle.zim_scan.specs.Nesting.{is_left_paren}
 use Rattle.zim_parse_expression.specs.StatementTokens.{expect_token, is_bar, is_default, is_read, is_left_brace, begins_read, sees}
-use Rattle.zim_parse.specs.StatementParser.{row_of, rows_at, rows_of, table_of, set_read, set_value, is_family, family_word, family_of, set_side_of, entry_of, given_of, par_value, par_read, par_table, par_entries, par_default, par_read_alone, par_side_of}
+use Rattle.zim_parse.specs.StatementParser.{table_row, rows_at, table_rows, table_behind, set_read, set_value, is_family, family_word, family_call, set_side_of, entry_of, given_of, par_value, par_read, par_table, par_entries, par_default, par_read_alone, par_side_of}
 use Rattle.zim_parse_expression.proofs.BeginningLaws.{no}
 use Rattle.zim_parse_expression.proofs.InversionLaws.{then_parts, answer, Split, Got, concluded, prefixed, appended, single, infixed, enclosed, got_left_paren, got_right_brace, got_items}
 use Rattle.zim_parse_expression.proofs.PrimarySoundLaws.{SoundInner, items_sound, arguments_sound}
@@ -49,8 +49,8 @@ row_if : (b : Bool) {A : Type 0} (x : A) (left : List Placed) (y : A) (rest : Li
 row_if true x left y rest h = (refl, h)
 row_if false x left y rest h = absurd (none-some (y, rest) h)
 
-row_sound : (inner : Inner) → SoundInner inner → (columns : ℕ) (ts : List Placed) (row : List Expr × List Expr) (rest : List Placed) → row_of inner columns ts ≡ answer row rest → GotRow columns ts row rest
-unfolding row_of
+row_sound : (inner : Inner) → SoundInner inner → (columns : ℕ) (ts : List Placed) (row : List Expr × List Expr) (rest : List Placed) → table_row inner columns ts ≡ answer row rest → GotRow columns ts row rest
+unfolding table_row
 row_sound inner s columns ts row rest h =
     let a = then_parts h in
     let b = then_parts a.gave in
@@ -115,7 +115,7 @@ family_by inner s p (word_token w) more side rest h = family_if inner s p w more
 family_by inner s p (sign_token SLess) more side rest h = absurd (none-some (side, rest) h)
 family_by inner s p _ more side rest h = absurd (none-some (side, rest) h)
 
-family_sound : (inner : Inner) → SoundInner inner → (ts : List Placed) (side : SetSide) (rest : List Placed) → family_of inner ts ≡ answer side rest → Got (ReadsSetSide (Some bracket.Empty)) ts side rest
+family_sound : (inner : Inner) → SoundInner inner → (ts : List Placed) (side : SetSide) (rest : List Placed) → family_call inner ts ≡ answer side rest → Got (ReadsSetSide (Some bracket.Empty)) ts side rest
 family_sound inner s [] side rest h = absurd (none-some (side, rest) h)
 family_sound inner s (t ∷ more) side rest h = family_by inner s t.place t.token more side rest h
 
@@ -150,16 +150,16 @@ rows_by {columns = columns} {ts = ts} {behind = behind} p g more recur inner (So
     concluded (ReadsRows columns) (one_more_row p g.first g.last g.fits g.items g.values l.derives)
     (prefixed (placed p (sign_token SBar)) refl (subst (λ (m : List Placed). Split ts m a.behind) tidy whole)) a.gave
 
-rows_sound : (inner : Inner) → SoundInner inner → (columns turns : ℕ) (p : Place) (ts : List Placed) (rows : List (List Expr × List Expr)) (rest : List Placed) → rows_of inner columns turns ts ≡ answer rows rest →
+rows_sound : (inner : Inner) → SoundInner inner → (columns turns : ℕ) (p : Place) (ts : List Placed) (rows : List (List Expr × List Expr)) (rest : List Placed) → table_rows inner columns turns ts ≡ answer rows rest →
     Got (ReadsRows columns) (placed p (sign_token SBar) ∷ ts) rows rest
-unfolding rows_of
+unfolding table_rows
 rows_sound inner s columns zero p ts rows rest h = absurd (none-some (rows, rest) h)
 rows_sound inner s columns (suc turns) p ts rows rest h =
     let a = then_parts h in
-    rows_by p (row_sound inner s columns ts a.first a.behind a.was) (rows_of inner columns turns) (λ q us more left e. rows_sound inner s columns turns q us more left e) inner (expect_token is_bar a.behind) refl rows rest a.gave
+    rows_by p (row_sound inner s columns ts a.first a.behind a.was) (table_rows inner columns turns) (λ q us more left e. rows_sound inner s columns turns q us more left e) inner (expect_token is_bar a.behind) refl rows rest a.gave
 
-table_sound : (inner : Inner) → SoundInner inner → (p : Place) (ts : List Placed) (table : Table) (rest : List Placed) → table_of inner ts ≡ answer table rest → Got ReadsTable (placed p (sign_token SBar) ∷ ts) table rest
-unfolding table_of
+table_sound : (inner : Inner) → SoundInner inner → (p : Place) (ts : List Placed) (table : Table) (rest : List Placed) → table_behind inner ts ≡ answer table rest → Got ReadsTable (placed p (sign_token SBar) ∷ ts) table rest
+unfolding table_behind
 table_sound inner s p ts table rest h =
     let a = then_parts h in
     let b = then_parts a.gave in

@@ -17,7 +17,7 @@ use Rattle.zim_tree.specs.Levels.{sum, placed}
 use Rattle.zim_tree.specs.Grammar.{a_tuple, an_index, an_index_with}
 use Rattle.zim_tree.specs.StatementGrammar.{word_at, ReadsEntries, the_last_entry, one_more_entry, a_reading, ReadsGiven, not_given, is_given, ReadsSetSide, a_set, a_set_read, a_family, a_set_for_each, sets_listed, ReadsParSide, a_value, a_value_read, a_value_for_each, values_listed, values_in_table, values_read, the_default, ReadsBracket, a_bracket_loop, a_bracket_over, ReadsBrackets, no_bracket, a_bracket, ReadsSetBrackets, filled_or_none, empty_brackets}
 use Rattle.zim_scan.specs.Nesting.{class_at}
-use Rattle.zim_parse_expression.specs.Next.{looseness, bound, Start, a_less, start_at, start_of, is_right_bracket, is_comma}
+use Rattle.zim_parse_expression.specs.Next.{looseness, level_bound, Start, a_less, start_at, start_of, is_right_bracket, is_comma}
 use Rattle.zim_parse_expression.specs.Parser.{Inner, and_then, expect, parse}
 use Rattle.zim_parse_expression.specs.StatementTokens.{expect_token, is_left_bracket, is_bar, is_default, is_read, sees}
 use Rattle.zim_parse.specs.StatementParser.{set_side_of, par_side_of, bracket_at, bracket_of, brackets_of, set_brackets_of}
@@ -57,7 +57,7 @@ entries_less (the_last_entry (a_tuple q r l) e) rest = (refl, refl, refl)
 entries_less (one_more_entry p (a_tuple q r l) e f) rest = (refl, refl, refl)
 
 -- what comes behind the entries of a parameter stops a sum
-default_loose : {ts : List Placed} {default : Option (Place × Expr)} → ReadsGiven WDefault ts default → (z : Place) (rest : List Placed) → bound sum < looseness (ts ++ ended_by z rest)
+default_loose : {ts : List Placed} {default : Option (Place × Expr)} → ReadsGiven WDefault ts default → (z : Place) (rest : List Placed) → level_bound sum < looseness (ts ++ ended_by z rest)
 default_loose not_given z rest = omega arith
 default_loose (is_given p d) z rest = omega arith
 

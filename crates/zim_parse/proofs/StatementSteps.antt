@@ -16,17 +16,17 @@ use Rattle.zim_tree.specs.Classes.{word_class}
 use Rattle.zim_tree.specs.Levels.{Level, unary, sum, placed}
 use Rattle.zim_tree.specs.Grammar.{Reads, ReadsList, ReadsTuple, a_tuple}
 use Rattle.zim_tree.specs.StatementGrammar.{word_at, is_option, AtMostOnce, ReadsOptions, no_option, an_option, ReadsReading, a_reading, ReadsEntries, the_last_entry, one_more_entry, ReadsRows, the_last_row, one_more_row, ReadsTable, a_table, ReadsGiven, not_given, is_given}
-use Rattle.zim_parse_expression.specs.Next.{looseness, bound}
+use Rattle.zim_parse_expression.specs.Next.{looseness, level_bound}
 use Rattle.zim_parse_expression.specs.Parser.{and_then, tuple_of, parse}
 use Rattle.zim_parse_expression.specs.StatementTokens.{expect_token, is_bar, option_in}
-use Rattle.zim_parse.specs.StatementParser.{options_of, each_once, reading_of, entry_of, given_of, row_of, rows_of, table_of}
+use Rattle.zim_parse.specs.StatementParser.{options_of, each_once, reading_of, entry_of, given_of, table_row, table_rows, table_behind}
 use Rattle.zim_parse_expression.proofs.BeginningLaws.{no}
 use Rattle.zim_parse_expression.proofs.ListLaws.{Listed, last_item, next_item, listed_items}
 use Rattle.zim_parse_expression.proofs.PrimaryLaws.{deeper, tuple_reads}
 use Rattle.zim_parse_expression.proofs.CompletenessLaws.{complete, complete_list}
 
 -- an expression, where a parser for what stands deeper reads it
-pub part : {level : Level} {ts : List Placed} {e : Expr} → Reads level ts e → (n : ℕ) → length ts < n → (rest : List Placed) → bound level < looseness rest → parse n level (ts ++ rest) ≡ Some (e, rest)
+pub part : {level : Level} {ts : List Placed} {e : Expr} → Reads level ts e → (n : ℕ) → length ts < n → (rest : List Placed) → level_bound level < looseness rest → parse n level (ts ++ rest) ≡ Some (e, rest)
 part d n h rest s = deeper (complete d) n h rest s
 
 pub tuple_part : {ts : List Placed} {tuple : Angle} → ReadsTuple ts tuple → (n : ℕ) → length ts < n → (rest : List Placed) → tuple_of (parse n) (ts ++ rest) ≡ Some (tuple, rest)
@@ -45,7 +45,7 @@ abbrev pub option_next : List Placed → Option Word
 option_next [] = None
 option_next (t ∷ rest) = option_in t.token
 
-options_loose : {ts : List Placed} {options : List (Place × Word × Expr)} → ReadsOptions ts options → (rest : List Placed) → bound sum < looseness rest → bound sum < looseness (ts ++ rest)
+options_loose : {ts : List Placed} {options : List (Place × Word × Expr)} → ReadsOptions ts options → (rest : List Placed) → level_bound sum < looseness rest → level_bound sum < looseness (ts ++ rest)
 options_loose no_option rest s = s
 options_loose (an_option p w h d e) rest s = rw (option_class w h) (omega arith)
 
@@ -53,7 +53,7 @@ options_count : {ts : List Placed} {options : List (Place × Word × Expr)} → 
 options_count no_option = omega arith
 options_count (an_option p w {ts = ts} {us = us} h d e) = omega (arith, length-append ts us, options_count e)
 
-options_read : {ts : List Placed} {options : List (Place × Word × Expr)} → ReadsOptions ts options → (n : ℕ) → length ts < n → (rest : List Placed) → bound sum < looseness rest → option_next rest ≡ None →
+options_read : {ts : List Placed} {options : List (Place × Word × Expr)} → ReadsOptions ts options → (n : ℕ) → length ts < n → (rest : List Placed) → level_bound sum < looseness rest → option_next rest ≡ None →
     (turns : ℕ) → length options ≤ turns → options_of (parse n) turns (ts ++ rest) ≡ Some (options, rest)
 unfolding options_of and_then
 options_read no_option n h rest s o zero t = refl
@@ -71,7 +71,7 @@ options_read (an_option p w {ts = ts} {us = us} i d e) n h rest s o (suc turns) 
 once_test : (options : List (Place × Word × Expr)) → AtMostOnce options → each_once options ≡ true
 once_test options h = rw (le-leb _ _ h.0, le-leb _ _ h.1, le-leb _ _ h.2) refl
 
-pub reading_read : {ts : List Placed} {reading : Reading} → ReadsReading ts reading → (n : ℕ) → length ts ≤ n → (rest : List Placed) → bound sum < looseness rest → option_next rest ≡ None →
+pub reading_read : {ts : List Placed} {reading : Reading} → ReadsReading ts reading → (n : ℕ) → length ts ≤ n → (rest : List Placed) → level_bound sum < looseness rest → option_next rest ≡ None →
     reading_of (parse n) (ts ++ rest) ≡ Some (reading, rest)
 unfolding reading_of and_then
 reading_read (a_reading p q {ts = ts} {us = us} {vs = vs} {options = options} h d e f) n l rest s o =
@@ -90,13 +90,13 @@ reading_read (a_reading p q {ts = ts} {us = us} {vs = vs} {options = options} h 
 
 -- entries
 
-entry_read : {ts us : List Placed} {tuple : Angle} {given : Expr} → ReadsTuple ts tuple → Reads sum us given → (n : ℕ) → length (ts ++ us) < n → (rest : List Placed) → bound sum < looseness rest →
+entry_read : {ts us : List Placed} {tuple : Angle} {given : Expr} → ReadsTuple ts tuple → Reads sum us given → (n : ℕ) → length (ts ++ us) < n → (rest : List Placed) → level_bound sum < looseness rest →
     entry_of (parse n) ((ts ++ us) ++ rest) ≡ Some ((tuple, given), rest)
 unfolding entry_of and_then
 entry_read {ts = ts} {us = us} d e n h rest s =
     rw (append_assoc ts us rest, tuple_part d n (omega (arith, length-append ts us, h)) (us ++ rest), part e n (omega (arith, length-append ts us, h)) rest s) refl
 
-pub entries_listed : {ts : List Placed} {entries : List (Angle × Expr)} → ReadsEntries ts entries → (n : ℕ) → length ts < n → (rest : List Placed) → bound sum < looseness rest → Listed (entry_of (parse n)) rest ts entries
+pub entries_listed : {ts : List Placed} {entries : List (Angle × Expr)} → ReadsEntries ts entries → (n : ℕ) → length ts < n → (rest : List Placed) → level_bound sum < looseness rest → Listed (entry_of (parse n)) rest ts entries
 entries_listed (the_last_entry {ts = ts} {us = us} d e) n h rest s = last_item (ts ++ us) (entry_read d e n h rest s)
 entries_listed (one_more_entry p {ts = ts} {us = us} {vs = vs} {tuple = tuple} {given = given} {others = others} d e f) n h rest s =
     let lengths : (length (ts ++ us) < n) × (length vs < n) = (
@@ -109,7 +109,7 @@ entries_listed (one_more_entry p {ts = ts} {us = us} {vs = vs} {tuple = tuple} {
 -- a given operand
 
 pub given_read : {w : Word} (test : Token → Bool) → test (word_token w) ≡ true → {ts : List Placed} {given : Option (Place × Expr)} → ReadsGiven w ts given → (n : ℕ) → length ts ≤ n → (rest : List Placed) →
-    bound sum < looseness rest → expect_token test rest ≡ None → given_of (parse n) test (ts ++ rest) ≡ Some (given, rest)
+    level_bound sum < looseness rest → expect_token test rest ≡ None → given_of (parse n) test (ts ++ rest) ≡ Some (given, rest)
 unfolding and_then
 given_read test k not_given n h rest s o = rw o refl
 given_read test k (is_given p {ts = ts} d) n h rest s o = rw (k, part d n (omega arith) rest s) refl
@@ -117,8 +117,8 @@ given_read test k (is_given p {ts = ts} d) n h rest s o = rw (k, part d n (omega
 -- tables
 
 row_read : {ts us : List Placed} {items values : List Expr} (columns : ℕ) (q r : Place) → length values ≡ columns → ReadsList unary ts items → ReadsList unary us values → (n : ℕ) → length ts < n → length us < n → (rest : List Placed) →
-    row_of (parse n) columns (ts ++ (placed q (sign_token SBar) ∷ (us ++ (placed r (sign_token SBar) ∷ rest)))) ≡ Some ((items, values), rest)
-unfolding row_of and_then
+    table_row (parse n) columns (ts ++ (placed q (sign_token SBar) ∷ (us ++ (placed r (sign_token SBar) ∷ rest)))) ≡ Some ((items, values), rest)
+unfolding table_row and_then
 row_read {ts = ts} {us = us} columns q r h d e n l1 l2 rest =
     rw (
       listed_items ((complete_list d).lists n l1 (placed q (sign_token SBar) ∷ (us ++ (placed r (sign_token SBar) ∷ rest))) (omega arith)) refl,
@@ -141,8 +141,8 @@ rows_barred (the_last_row p q r h d e) = record { at = p; is_first = refl }
 rows_barred (one_more_row p q r h d e f) = record { at = p; is_first = refl }
 
 rows_read : {columns : ℕ} {ts : List Placed} {rows : List (List Expr × List Expr)} → ReadsRows columns ts rows → (n : ℕ) → length ts ≤ n → (rest : List Placed) → expect_token is_bar rest ≡ None →
-    (turns : ℕ) → length ts ≤ turns → rows_of (parse n) columns turns (tail ts ++ rest) ≡ Some (rows, rest)
-unfolding rows_of and_then
+    (turns : ℕ) → length ts ≤ turns → table_rows (parse n) columns turns (tail ts ++ rest) ≡ Some (rows, rest)
+unfolding table_rows and_then
 rows_read (the_last_row p q r h d e) n l rest o zero t = absurd (omega arith)
 rows_read {columns = columns} (the_last_row p q r {ts = ts} {us = us} h d e) n l rest o (suc turns) t =
     let last : List Placed = us ++ placed r (sign_token SBar) ∷ [] in
@@ -168,8 +168,8 @@ rows_read {columns = columns} (one_more_row p q r {ts = ts} {us = us} {vs = vs} 
 
 -- a table behind its first bar
 pub table_read : {ts : List Placed} {table : Table} → ReadsTable ts table → (n : ℕ) → length ts ≤ n → (rest : List Placed) → expect_token is_bar rest ≡ None →
-    (r : Place) × (us : List Placed) × (ts ≡ placed r (sign_token SBar) ∷ us) × (table_of (parse n) (us ++ rest) ≡ Some (table, rest))
-unfolding table_of and_then
+    (r : Place) × (us : List Placed) × (ts ≡ placed r (sign_token SBar) ∷ us) × (table_behind (parse n) (us ++ rest) ≡ Some (table, rest))
+unfolding table_behind and_then
 table_read (a_table p q {ts = ts} {us = us} {head = head} {rows = rows} d f) n l rest o =
     let l1 : length ts < n = omega (arith, length-append ts (placed q (sign_token SBar) ∷ us), l) in
     let l2 : length us ≤ n = omega (arith, length-append ts (placed q (sign_token SBar) ∷ us), l) in

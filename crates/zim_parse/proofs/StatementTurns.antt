@@ -11,7 +11,7 @@ use Rattle.zim_parse_expression.specs.StatementTokens.{option_in, limit_in, expe
 use Rattle.zim_parse_expression.specs.Outcome.{found_at}
 use Rattle.zim_parse_expression.specs.Turns.{turned, repeat, prepend}
 use Rattle.zim_parse_expression.proofs.TurnLaws.{begun, goes_on, turn_left}
-use Rattle.zim_parse.specs.StatementParser.{option_or, options_of, limit_or, limits_of, row_of, rows_of}
+use Rattle.zim_parse.specs.StatementParser.{option_or, options_of, limit_or, limits_of, table_row, table_rows}
 use Rattle.zim_parse.specs.StatementTurns.{option_found, option_turn, limit_found, limit_turn}
 
 -- options of `read` and bounds
@@ -60,34 +60,34 @@ limits_by_turns inner (suc n) (t ∷ rest) = limit_taken inner n t rest (λ us. 
 -- rows of a table
 
 pub rows_go_on : {whole : Parsed (List (List Expr × List Expr))} (inner : Inner) (columns n at : ℕ) (items : List (List Expr × List Expr)) (ts : List Placed) {r1 left : List Placed} {row : List Expr × List Expr} {p : Place} →
-    whole ≡ prepend items (rows_of inner columns (n - at) ts) → at < n → row_of inner columns ts ≡ Some (row, r1) → expect_token is_bar r1 ≡ Some (p, left) →
-    whole ≡ prepend (items ++ row ∷ []) (rows_of inner columns (n - (at + 1)) left)
-unfolding rows_of and_then
+    whole ≡ prepend items (table_rows inner columns (n - at) ts) → at < n → table_row inner columns ts ≡ Some (row, r1) → expect_token is_bar r1 ≡ Some (p, left) →
+    whole ≡ prepend (items ++ row ∷ []) (table_rows inner columns (n - (at + 1)) left)
+unfolding table_rows and_then
 rows_go_on inner columns n at items ts {left = left} {row = row} h below e bar =
-    h ∙ ap (λ k. prepend items (rows_of inner columns k ts)) (turn_left n at below) ∙ rw (e, bar) (goes_on items row (rows_of inner columns (n - (at + 1)) left))
+    h ∙ ap (λ k. prepend items (table_rows inner columns k ts)) (turn_left n at below) ∙ rw (e, bar) (goes_on items row (table_rows inner columns (n - (at + 1)) left))
 
 pub rows_stop : {whole : Parsed (List (List Expr × List Expr))} (inner : Inner) (columns n at : ℕ) (items : List (List Expr × List Expr)) (ts : List Placed) {r1 : List Placed} {row : List Expr × List Expr} →
-    whole ≡ prepend items (rows_of inner columns (n - at) ts) → at < n → row_of inner columns ts ≡ Some (row, r1) → expect_token is_bar r1 ≡ None →
+    whole ≡ prepend items (table_rows inner columns (n - at) ts) → at < n → table_row inner columns ts ≡ Some (row, r1) → expect_token is_bar r1 ≡ None →
     whole ≡ Some (items ++ row ∷ [], r1)
-unfolding rows_of and_then
+unfolding table_rows and_then
 rows_stop inner columns n at items ts h below e bar =
-    h ∙ ap (λ k. prepend items (rows_of inner columns k ts)) (turn_left n at below) ∙ rw (e, bar) refl
+    h ∙ ap (λ k. prepend items (table_rows inner columns k ts)) (turn_left n at below) ∙ rw (e, bar) refl
 
 pub rows_fail : {whole : Parsed (List (List Expr × List Expr))} (inner : Inner) (columns n at : ℕ) (items : List (List Expr × List Expr)) (ts : List Placed) →
-    whole ≡ prepend items (rows_of inner columns (n - at) ts) → at < n → row_of inner columns ts ≡ None → whole ≡ None
-unfolding rows_of and_then
+    whole ≡ prepend items (table_rows inner columns (n - at) ts) → at < n → table_row inner columns ts ≡ None → whole ≡ None
+unfolding table_rows and_then
 rows_fail inner columns n at items ts h below e =
-    h ∙ ap (λ k. prepend items (rows_of inner columns k ts)) (turn_left n at below) ∙ rw e refl
+    h ∙ ap (λ k. prepend items (table_rows inner columns k ts)) (turn_left n at below) ∙ rw e refl
 
 pub rows_end : {whole : Parsed (List (List Expr × List Expr))} (inner : Inner) (columns n at : ℕ) (items : List (List Expr × List Expr)) (ts : List Placed) →
-    whole ≡ prepend items (rows_of inner columns (n - at) ts) → n ≤ at → whole ≡ None
-unfolding rows_of and_then
+    whole ≡ prepend items (table_rows inner columns (n - at) ts) → n ≤ at → whole ≡ None
+unfolding table_rows and_then
 rows_end inner columns n at items ts h done =
     let none : n - at ≡ 0 = omega arith in
-    h ∙ ap (λ k. prepend items (rows_of inner columns k ts)) none
+    h ∙ ap (λ k. prepend items (table_rows inner columns k ts)) none
 
 -- the lists as loops read them
 
 pub rows_begin : (inner : Inner) (columns : ℕ) (rows : List (List Expr × List Expr)) (turns : ℕ) (ts : List Placed) → rows ≡ [] →
-    rows_of inner columns turns ts ≡ prepend rows (rows_of inner columns (turns - 0) ts)
-rows_begin inner columns rows turns ts k = let all : turns - 0 ≡ turns = omega arith in rw (all, k) (begun (rows_of inner columns turns ts))
+    table_rows inner columns turns ts ≡ prepend rows (table_rows inner columns (turns - 0) ts)
+rows_begin inner columns rows turns ts k = let all : turns - 0 ≡ turns = omega arith in rw (all, k) (begun (table_rows inner columns turns ts))

@@ -9,19 +9,19 @@ use Rattle.zim_parse_expression.specs.Parser.{parse}
 use Rattle.zim_scan.specs.Refused.{first_refused}
 use Rattle.zim_scan.specs.Nesting.{first_deep}
 use Rattle.zim_parse.specs.Answers.{fault_at, Refuses, no_statement}
-use Rattle.zim_parse.specs.StatementParser.{statement_of}
+use Rattle.zim_parse.specs.StatementParser.{whole_statement}
 use Rattle.zim_parse.proofs.OneStatement.{parser_reads_statements}
 
-pub whole_read : (ts : List Placed) (s : Stmt) (left : List Placed) → statement_of (parse (length ts)) ts ≡ Some (s, left) → length left ≡ 0 → ReadsStatement ts s
+pub whole_read : (ts : List Placed) (s : Stmt) (left : List Placed) → whole_statement (parse (length ts)) ts ≡ Some (s, left) → length left ≡ 0 → ReadsStatement ts s
 whole_read ts s [] h none = (parser_reads_statements ts s).0 h
 whole_read ts s (t ∷ left) h none = absurd (omega arith)
 
-pub nothing_read : (ts : List Placed) → statement_of (parse (length ts)) ts ≡ None → (s : Stmt) → ReadsStatement ts s → ⊥
+pub nothing_read : (ts : List Placed) → whole_statement (parse (length ts)) ts ≡ None → (s : Stmt) → ReadsStatement ts s → ⊥
 nothing_read ts h s d =
     let none : List Placed = [] in
     none-some (s, none) (sym h ∙ (parser_reads_statements ts s).1 d)
 
-pub too_little_read : (ts : List Placed) (s : Stmt) (left : List Placed) → statement_of (parse (length ts)) ts ≡ Some (s, left) → (length left ≡ 0 → ⊥) → (other : Stmt) → ReadsStatement ts other → ⊥
+pub too_little_read : (ts : List Placed) (s : Stmt) (left : List Placed) → whole_statement (parse (length ts)) ts ≡ Some (s, left) → (length left ≡ 0 → ⊥) → (other : Stmt) → ReadsStatement ts other → ⊥
 too_little_read ts s left h more other d =
     let none : List Placed = [] in
     let k = (parser_reads_statements ts other).1 d in

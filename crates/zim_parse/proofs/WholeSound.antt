@@ -22,7 +22,7 @@ use Rattle.zim_tree.specs.StatementGrammar.{word_at, is_kind, limit_token, Limit
 use Rattle.zim_parse_expression.specs.Next.{Start, a_less, start_of, is_in, is_right_paren}
 use Rattle.zim_parse_expression.specs.Parser.{Inner, Parsed, and_then, expect, parse}
 use Rattle.zim_parse_expression.specs.StatementTokens.{expect_token, is_semicolon, is_assign, is_colon, is_priority, is_startval, kind_in, kind_at, kind_of, limit_in}
-use Rattle.zim_parse.specs.StatementParser.{name_at, name_of, limit_or, limits_of, is_binary, is_empty, limits_kept, var_of, printed_tuple, printed_at, printed_of, doing_at, doing_of, parameters_at, goal_of, definition_of, declared_of, behind_word, behind_first, statement_of}
+use Rattle.zim_parse.specs.StatementParser.{name_at, name_of, limit_or, limits_of, is_binary, has_no_limits, limits_kept, var_of, printed_tuple, printed_at, printed_of, doing_at, doing_of, parameters_at, goal_of, definition_of, declared_of, behind_word, behind_first, whole_statement}
 use Rattle.zim_parse_expression.proofs.BeginningLaws.{no}
 use Rattle.zim_parse_expression.proofs.InversionLaws.{then_parts, answer, Split, Got, concluded, prefixed, appended, single, infixed, got_left_paren, got_right_paren, got_separator, Sound, Commaed, last_one, another, got_items}
 use Rattle.zim_parse_expression.proofs.PrimarySoundLaws.{SoundInner, tuple_sound, index_sound}
@@ -79,7 +79,7 @@ limits_sound inner s zero ts ls rest h = concluded ReadsLimits no_limit (record 
 limits_sound inner s (suc turns) [] ls rest h = concluded ReadsLimits no_limit (record { parts = refl }) h
 limits_sound inner s (suc turns) (t ∷ more) ls rest h = limits_by inner s (limits_of inner turns) (limits_sound inner s turns) t more (limit_in t.token) refl ls rest h
 
-empty_nil : (limits : List Limit) → is_empty limits ≡ true → limits ≡ []
+empty_nil : (limits : List Limit) → has_no_limits limits ≡ true → limits ≡ []
 empty_nil [] h = refl
 empty_nil (l ∷ limits) h = no h
 
@@ -87,7 +87,7 @@ kept_of_test : (kind : Option Word) (limits : List Limit) → limits_kept kind l
 kept_of_test kind limits h =
     let a = and_parts _ _ h in
     let b = and_parts _ _ a.0 in
-    (leb-true _ _ b.0, leb-true _ _ b.1, λ e. empty_nil limits (subst (λ (k : Option Word). (if is_binary k then is_empty limits else true) ≡ true) e a.1))
+    (leb-true _ _ b.0, leb-true _ _ b.1, λ e. empty_nil limits (subst (λ (k : Option Word). (if is_binary k then has_no_limits limits else true) ≡ true) e a.1))
 
 kept_if : (b : Bool) {A : Type 0} (x : A) (left : List Placed) (y : A) (rest : List Placed) → (if b then answer x left else None) ≡ answer y rest → (b ≡ true) × (answer x left ≡ answer y rest)
 kept_if true x left y rest h = (refl, h)
@@ -314,8 +314,8 @@ first_sound inner s p _ more stmt rest h = absurd (none-some (stmt, rest) h)
 ended_statement : {ts : List Placed} {stmt : Stmt} (r : Place) → ReadsBare ts stmt → ReadsStatement (ts ++ placed r (sign_token SSemicolon) ∷ []) stmt
 ended_statement r (bare p q name d) = a_statement p q r name d
 
-statement_by : (inner : Inner) → SoundInner inner → (ts : List Placed) (stmt : Stmt) (rest : List Placed) → statement_of inner ts ≡ answer stmt rest → Got ReadsStatement ts stmt rest
-unfolding statement_of
+statement_by : (inner : Inner) → SoundInner inner → (ts : List Placed) (stmt : Stmt) (rest : List Placed) → whole_statement inner ts ≡ answer stmt rest → Got ReadsStatement ts stmt rest
+unfolding whole_statement
 statement_by inner s [] stmt rest h = absurd (none-some (stmt, rest) h)
 statement_by inner s (t ∷ more) stmt rest h =
     let a = then_parts h in
@@ -324,7 +324,7 @@ statement_by inner s (t ∷ more) stmt rest h =
     concluded ReadsStatement (ended_statement b.first d.derives) (appended d.splits (single (placed b.first (sign_token SSemicolon)) (token_fixed is_semicolon (sign_token SSemicolon) semicolon_back a.behind b.first b.behind b.was))) b.gave
 
 -- what the parser reads from all the tokens is a statement
-pub statement_sound : (depth : ℕ) (ts : List Placed) (stmt : Stmt) → statement_of (parse depth) ts ≡ answer stmt [] → ReadsStatement ts stmt
+pub statement_sound : (depth : ℕ) (ts : List Placed) (stmt : Stmt) → whole_statement (parse depth) ts ≡ answer stmt [] → ReadsStatement ts stmt
 statement_sound depth ts stmt h =
     let g = statement_by (parse depth) (parse_sound depth) ts stmt [] h in
     subst (λ (us : List Placed). ReadsStatement us stmt) (sym (g.splits.parts ∙ append-nil g.used)) g.derives

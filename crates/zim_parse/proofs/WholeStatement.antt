@@ -19,10 +19,10 @@ use Rattle.zim_tree.specs.declared.stmt.Printed.TheVariants as printed
 use Rattle.zim_tree.specs.Levels.{sum, disjunction, placed, separator_token}
 use Rattle.zim_tree.specs.Grammar.{Reads, a_tuple}
 use Rattle.zim_tree.specs.StatementGrammar.{word_at, limit_token, LimitsKept, ReadsBrackets, ReadsGiven, not_given, is_given, ReadsKind, no_kind, a_kind, ReadsLimits, no_limit, a_limit, ReadsPrinted, a_printed_value, a_printed_tuple, ReadsPrintedList, the_last_printed, one_more_printed, ReadsDoing, a_print, a_check, for_each, ReadsNames, the_last_name, one_more_name, ReadsParameters, no_parameter, the_parameters, is_definition, goal_word, ReadsShape, a_set_statement, a_param_statement, a_var_statement, a_goal_statement, a_subto_statement, a_definition, a_do_statement, ReadsStatement, a_statement}
-use Rattle.zim_parse_expression.specs.Next.{looseness, bound, Start, a_less, start_of, is_in, is_right_paren}
+use Rattle.zim_parse_expression.specs.Next.{looseness, level_bound, Start, a_less, start_of, is_in, is_right_paren}
 use Rattle.zim_parse_expression.specs.Parser.{Inner, and_then, expect, parse}
 use Rattle.zim_parse_expression.specs.StatementTokens.{expect_token, is_left_bracket, is_priority, is_startval, kind_of, kind_in, limit_in}
-use Rattle.zim_parse.specs.StatementParser.{name_of, limits_of, limits_kept, is_binary, is_empty, var_of, printed_at, printed_of, doing_of, parameters_of, definition_of, declared_of, behind_word, statement_of}
+use Rattle.zim_parse.specs.StatementParser.{name_of, limits_of, limits_kept, is_binary, has_no_limits, var_of, printed_at, printed_of, doing_of, parameters_of, definition_of, declared_of, behind_word, whole_statement}
 use Rattle.zim_parse_expression.proofs.BeginningLaws.{no}
 use Rattle.zim_parse_expression.proofs.ListLaws.{Listed, last_item, next_item, listed_items}
 use Rattle.zim_parse_expression.proofs.PrimaryLaws.{tuple_reads}
@@ -54,7 +54,7 @@ abbrev kind_next : List Placed → Option Word
 kind_next [] = None
 kind_next (t ∷ rest) = kind_in t.token
 
-limit_loose : (p : Place) (lower : Bool) (l : List Placed) → bound sum < looseness (placed p (limit_token lower) ∷ l)
+limit_loose : (p : Place) (lower : Bool) (l : List Placed) → level_bound sum < looseness (placed p (limit_token lower) ∷ l)
 limit_loose p true l = omega arith
 limit_loose p false l = omega arith
 
@@ -66,7 +66,7 @@ limits_count : {ts : List Placed} {limits : List Limit} → ReadsLimits ts limit
 limits_count no_limit = omega arith
 limits_count (a_limit p lower {ts = ts} {us = us} d e) = omega (arith, length-append ts us, limits_count e)
 
-limits_read : {ts : List Placed} {limits : List Limit} → ReadsLimits ts limits → (n : ℕ) → length ts < n → (rest : List Placed) → bound sum < looseness rest → limit_next rest ≡ None →
+limits_read : {ts : List Placed} {limits : List Limit} → ReadsLimits ts limits → (n : ℕ) → length ts < n → (rest : List Placed) → level_bound sum < looseness rest → limit_next rest ≡ None →
     (turns : ℕ) → length limits ≤ turns → limits_of (parse n) turns (ts ++ rest) ≡ Some (limits, rest)
 unfolding limits_of and_then
 limits_read no_limit n h rest s o zero t = refl
@@ -77,7 +77,7 @@ limits_read (a_limit p lower {ts = ts} {us = us} d e) n h rest s o (suc turns) t
     rw (
       append_assoc ts us rest,
       limit_back lower,
-      part d n (omega (arith, length-append ts us, h)) (us ++ rest) (limits_first (λ (l : List Placed). bound sum < looseness l) limit_loose e rest s),
+      part d n (omega (arith, length-append ts us, h)) (us ++ rest) (limits_first (λ (l : List Placed). level_bound sum < looseness l) limit_loose e rest s),
       limits_read e n (omega (arith, length-append ts us, h)) rest s o turns (omega arith),
     ) refl
 
@@ -86,12 +86,12 @@ kind_read no_kind [] o = refl
 kind_read no_kind (t ∷ rest) o = rw o refl
 kind_read (a_kind p w h) rest o = rw h refl
 
-not_binary : (w : Word) (limits : List Limit) → (Some w ≡ Some WBinary → limits ≡ []) → (if is_binary (Some w) then is_empty limits else true) ≡ true
+not_binary : (w : Word) (limits : List Limit) → (Some w ≡ Some WBinary → limits ≡ []) → (if is_binary (Some w) then has_no_limits limits else true) ≡ true
 not_binary WBinary [] h = refl
 not_binary WBinary (l ∷ limits) h = let e : l ∷ limits ≡ [] = h refl in cc
 not_binary _ limits h = refl
 
-binary_test : (kind : Option Word) (limits : List Limit) → (kind ≡ Some WBinary → limits ≡ []) → (if is_binary kind then is_empty limits else true) ≡ true
+binary_test : (kind : Option Word) (limits : List Limit) → (kind ≡ Some WBinary → limits ≡ []) → (if is_binary kind then has_no_limits limits else true) ≡ true
 binary_test None limits h = refl
 binary_test (Some w) limits h = not_binary w limits h
 
@@ -126,10 +126,10 @@ var_read {ts = ts} {us = us} {vs = vs} {ws = ws} {xs = xs} {kind = kind} {limits
     let no_limit_next : limit_next (ws ++ (xs ++ last)) ≡ None =
     given_first WPriority (λ (l : List Placed). limit_next l ≡ None) (λ p l. refl) f _
     (given_first WStartval (λ (l : List Placed). limit_next l ≡ None) (λ p l. refl) g _ refl) in
-    let loose_first : bound sum < looseness (ws ++ (xs ++ last)) =
-    given_first WPriority (λ (l : List Placed). bound sum < looseness l) (λ p l. omega arith) f _
-    (given_first WStartval (λ (l : List Placed). bound sum < looseness l) (λ p l. omega arith) g _ (omega arith)) in
-    let loose_second : bound sum < looseness (xs ++ last) = given_first WStartval (λ (l : List Placed). bound sum < looseness l) (λ p l. omega arith) g _ (omega arith) in
+    let loose_first : level_bound sum < looseness (ws ++ (xs ++ last)) =
+    given_first WPriority (λ (l : List Placed). level_bound sum < looseness l) (λ p l. omega arith) f _
+    (given_first WStartval (λ (l : List Placed). level_bound sum < looseness l) (λ p l. omega arith) g _ (omega arith)) in
+    let loose_second : level_bound sum < looseness (xs ++ last) = given_first WStartval (λ (l : List Placed). level_bound sum < looseness l) (λ p l. omega arith) g _ (omega arith) in
     let no_priority_next : expect_token is_priority (xs ++ last) ≡ None = given_first WStartval (λ (l : List Placed). expect_token is_priority l ≡ None) (λ p l. refl) g _ refl in
     let enough : length limits ≤ length (vs ++ (ws ++ (xs ++ last))) = omega (arith, length-append vs (ws ++ (xs ++ last)), limits_count d) in
     rw (
@@ -157,14 +157,14 @@ unfolding and_then
 printed_by_start n a_less ts rest value m e = let f = m refl in rw (f.reads, f.follows, e) refl
 printed_by_start n _ ts rest value m e = rw e refl
 
-printed_read : {ts : List Placed} {item : Printed} → ReadsPrinted ts item → (n : ℕ) → length ts < n → (rest : List Placed) → bound disjunction < looseness rest → expect is_in rest ≡ None →
+printed_read : {ts : List Placed} {item : Printed} → ReadsPrinted ts item → (n : ℕ) → length ts < n → (rest : List Placed) → level_bound disjunction < looseness rest → expect is_in rest ≡ None →
     printed_of (parse n) (ts ++ rest) ≡ Some (item, rest)
 unfolding printed_of and_then
 printed_read (a_printed_value {ts = ts} {value = value} d) n h rest s i =
     printed_by_start n (start_of (ts ++ rest)) ts rest value (λ l. member_first d n h rest l) (part d n h rest s)
 printed_read (a_printed_tuple (a_tuple q r {ts = ts} l)) n h rest s i = rw (tuple_reads (complete_list l) q r n (omega (arith, length-append ts (placed r (sign_token SGreater) ∷ []), h)) rest, i) refl
 
-printed_listed : {ts : List Placed} {items : List Printed} → ReadsPrintedList ts items → (n : ℕ) → length ts < n → (rest : List Placed) → bound disjunction < looseness rest → expect is_in rest ≡ None → Listed (printed_of (parse n)) rest ts items
+printed_listed : {ts : List Placed} {items : List Printed} → ReadsPrintedList ts items → (n : ℕ) → length ts < n → (rest : List Placed) → level_bound disjunction < looseness rest → expect is_in rest ≡ None → Listed (printed_of (parse n)) rest ts items
 printed_listed (the_last_printed {ts = ts} d) n h rest s i = last_item ts (printed_read d n h rest s i)
 printed_listed (one_more_printed p {ts = ts} {us = us} d e) n h rest s i =
     next_item p ts us (printed_read d n (omega (arith, length-append ts (placed p (sign_token SComma) ∷ us), h)) (placed p (sign_token SComma) ∷ (us ++ rest)) (omega arith) refl)
@@ -309,8 +309,8 @@ shape_read (a_do_statement p {ts = ts} d) n h = record {
 }
 
 -- a statement is what the parser reads from its tokens
-pub statement_read : {ts : List Placed} {stmt : Stmt} → ReadsStatement ts stmt → (n : ℕ) → length ts ≤ n → statement_of (parse n) ts ≡ Some (stmt, [])
-unfolding statement_of and_then
+pub statement_read : {ts : List Placed} {stmt : Stmt} → ReadsStatement ts stmt → (n : ℕ) → length ts ≤ n → whole_statement (parse n) ts ≡ Some (stmt, [])
+unfolding whole_statement and_then
 statement_read (a_statement p q r name {ts = ts} {what = what} d) n h =
     let s = shape_read d n (omega (arith, length-append ts (placed r (sign_token SSemicolon) ∷ []), h)) in
     rw (s.is_first, s.reads r []) refl

@@ -16,12 +16,12 @@ use Rattle.zim_parse.specs.Answers.{fault_at, Accepts, Refuses}
 use Rattle.zim_parse.specs.StatementLaw.{TightStatement}
 
 -- tokens without their places
-abbrev pub tokens_of : List Placed → Tokens
-tokens_of = map (λ (t : Placed). t.token)
+abbrev pub bare_tokens : List Placed → Tokens
+bare_tokens = map (λ (t : Placed). t.token)
 
 -- a statement is tight, and these tokens are its spelling
 abbrev pub IsSpelledBy : List Placed → Stmt → Type 0
-IsSpelledBy ts s = TightStatement s × (spelled_of s ≡ tokens_of ts)
+IsSpelledBy ts s = TightStatement s × (spelled_of s ≡ bare_tokens ts)
 
 -- a map of places that keeps those of the tokens keeps the statement, so each of its places is that of a token
 abbrev pub PlacesAreOfTokens : Type 0
@@ -30,7 +30,7 @@ PlacesAreOfTokens = (put : Place → Place) (ts : List Placed) (s : Stmt) → Re
 
 -- the tokens of a derivation are the spelling of its statement
 abbrev pub ReadIsSpelled : Type 0
-ReadIsSpelled = (ts : List Placed) (s : Stmt) → ReadsStatement ts s → spelled_of s ≡ tokens_of ts
+ReadIsSpelled = (ts : List Placed) (s : Stmt) → ReadsStatement ts s → spelled_of s ≡ bare_tokens ts
 
 -- tokens that spell a tight statement have a derivation, of a statement that differs from it at most in places
 abbrev pub SpelledIsRead : Type 0

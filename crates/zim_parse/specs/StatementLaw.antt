@@ -7,7 +7,7 @@ use Rattle.zim_tree.specs.StatementSpelling.{spelled_of}
 use Rattle.zim_tree.specs.StatementGrammar.{ReadsStatement}
 use Rattle.zim_tree.specs.PlainStatement.{plain_statement}
 use Rattle.zim_parse_expression.specs.Parser.{parse}
-use Rattle.zim_parse.specs.StatementParser.{statement_of}
+use Rattle.zim_parse.specs.StatementParser.{whole_statement}
 
 -- a statement is tight where it has a derivation
 abbrev pub TightStatement : Stmt → Type 0
@@ -19,4 +19,4 @@ OneStatement = (a b : Stmt) → TightStatement a → TightStatement b → spelle
 
 -- what the parser reads from all the tokens is what has a derivation from them
 abbrev pub ParserReadsStatements : Type 0
-ParserReadsStatements = (ts : List Placed) (s : Stmt) → (statement_of (parse (length ts)) ts ≡ Some (s, [])) ↔ ReadsStatement ts s
+ParserReadsStatements = (ts : List Placed) (s : Stmt) → (whole_statement (parse (length ts)) ts ≡ Some (s, [])) ↔ ReadsStatement ts s

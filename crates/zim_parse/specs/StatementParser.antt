@@ -86,8 +86,8 @@ abbrev pub given_of : Inner → (Token → Bool) → Parser (Option (Place × Ex
 given_of inner test ts = given_at inner (expect_token test ts) ts
 
 -- a row of a table behind its first bar, with this many values
-unfoldable pub row_of : Inner → ℕ → Parser (List Expr × List Expr)
-row_of inner columns ts = and_then (items_of (inner unary) ts) (λ items r1. and_then (expect_token is_bar r1) (λ p r2.
+unfoldable pub table_row : Inner → ℕ → Parser (List Expr × List Expr)
+table_row inner columns ts = and_then (items_of (inner unary) ts) (λ items r1. and_then (expect_token is_bar r1) (λ p r2.
     and_then (items_of (inner unary) r2) (λ values r3. and_then (expect_token is_bar r3) (λ q left.
     if nat_eq (length values) columns then Some ((items, values), left) else None))))
 
@@ -97,14 +97,14 @@ rows_at inner columns more row None rest = Some (row ∷ [], rest)
 rows_at inner columns more row (Some x) rest = and_then (more x.1) (λ rows left. Some (row ∷ rows, left))
 
 -- one or more rows behind the first bar, at most so many
-unfoldable pub rows_of : Inner → ℕ → ℕ → Parser (List (List Expr × List Expr))
-rows_of inner columns zero ts = None
-rows_of inner columns (suc turns) ts = and_then (row_of inner columns ts) (λ row rest. rows_at inner columns (rows_of inner columns turns) row (expect_token is_bar rest) rest)
+unfoldable pub table_rows : Inner → ℕ → ℕ → Parser (List (List Expr × List Expr))
+table_rows inner columns zero ts = None
+table_rows inner columns (suc turns) ts = and_then (table_row inner columns ts) (λ row rest. rows_at inner columns (table_rows inner columns turns) row (expect_token is_bar rest) rest)
 
 -- a table behind its first bar
-unfoldable pub table_of : Inner → Parser Table
-table_of inner ts = and_then (items_of (inner unary) ts) (λ head r1. and_then (expect_token is_bar r1) (λ p r2. and_then (expect_token is_bar r2) (λ q r3.
-    and_then (rows_of inner (length head) (suc (length r3)) r3) (λ rows left. Some (record { head = head; rows = rows }, left)))))
+unfoldable pub table_behind : Inner → Parser Table
+table_behind inner ts = and_then (items_of (inner unary) ts) (λ head r1. and_then (expect_token is_bar r1) (λ p r2. and_then (expect_token is_bar r2) (λ q r3.
+    and_then (table_rows inner (length head) (suc (length r3)) r3) (λ rows left. Some (record { head = head; rows = rows }, left)))))
 
 -- the right sides
 
@@ -129,14 +129,14 @@ family_word inner t rest (word_token w) = if is_family (word_class w)
 family_word inner t rest _ = None
 
 -- a call of `powerset` or `subsets`
-abbrev pub family_of : Inner → Parser SetSide
-family_of inner [] = None
-family_of inner (t ∷ rest) = family_word inner t rest t.token
+abbrev pub family_call : Inner → Parser SetSide
+family_call inner [] = None
+family_call inner (t ∷ rest) = family_word inner t rest t.token
 
 -- what a set with these brackets is declared to be
 unfoldable pub set_side_of : Inner → Option Bracket → Parser SetSide
 set_side_of inner None ts = if begins_read ts then set_read inner ts else set_value inner ts
-set_side_of inner (Some bracket.Empty) ts = family_of inner ts
+set_side_of inner (Some bracket.Empty) ts = family_call inner ts
 set_side_of inner (Some (bracket.Loop index)) ts = set_value inner ts
 set_side_of inner (Some (bracket.Over over)) ts = and_then (items_of (entry_of inner) ts) (λ entries left. Some (set_side.Entries entries, left))
 
@@ -150,7 +150,7 @@ par_read inner ts = and_then (reading_of inner ts) (λ reading r1. and_then (giv
 
 -- a parameter in a table, with a default
 abbrev pub par_table : Inner → Parser ParSide
-par_table inner ts = and_then (expect_token is_bar ts) (λ p r1. and_then (table_of inner r1) (λ table r2. and_then (given_of inner is_default r2) (λ default left. Some (par_side.Table table default, left))))
+par_table inner ts = and_then (expect_token is_bar ts) (λ p r1. and_then (table_behind inner r1) (λ table r2. and_then (given_of inner is_default r2) (λ default left. Some (par_side.Table table default, left))))
 
 -- a parameter by its entries, with a default
 abbrev pub par_entries : Inner → Parser ParSide
@@ -225,14 +225,14 @@ is_binary (Some WBinary) = true
 is_binary _ = false
 
 -- whether there are no bounds
-abbrev pub is_empty : List Limit → Bool
-is_empty [] = true
-is_empty _ = false
+abbrev pub has_no_limits : List Limit → Bool
+has_no_limits [] = true
+has_no_limits _ = false
 
 -- whether the bounds are those that a variable of this kind may have
 abbrev pub limits_kept : Option Word → List Limit → Bool
 limits_kept kind limits = nat_le (count_by (λ (l : Limit). l.lower) limits) 1 && nat_le (count_by (λ (l : Limit). not l.lower) limits) 1
-    && (if is_binary kind then is_empty limits else true)
+    && (if is_binary kind then has_no_limits limits else true)
 
 -- a variable behind its name
 unfoldable pub var_of : Inner → Parser Shape
@@ -315,6 +315,6 @@ behind_first inner p (word_token w) rest = behind_word inner p w rest
 behind_first inner p _ rest = None
 
 -- a statement with its `;`
-unfoldable pub statement_of : Inner → Parser Stmt
-statement_of inner [] = None
-statement_of inner (t ∷ rest) = and_then (behind_first inner t.place t.token rest) (λ stmt r1. and_then (expect_token is_semicolon r1) (λ q left. Some (stmt, left)))
+unfoldable pub whole_statement : Inner → Parser Stmt
+whole_statement inner [] = None
+whole_statement inner (t ∷ rest) = and_then (behind_first inner t.place t.token rest) (λ stmt r1. and_then (expect_token is_semicolon r1) (λ q left. Some (stmt, left)))

@@ -24,7 +24,7 @@ use Rattle.zim_parse_expression.specs.Next.{is_in, start_of}
 use Rattle.zim_parse_expression.specs.Outcome.{is_less_start}
 use Rattle.zim_parse_expression.specs.Parser.{Parser, Inner, and_then, expect, items_of, tuple_of, index_from}
 use Rattle.zim_parse_expression.specs.StatementTokens.{expect_token, is_priority, is_startval, is_assign, is_colon, is_bar, is_read, is_default, sees, begins_read}
-use Rattle.zim_parse.specs.StatementParser.{options_of, each_once, rows_of, given_of, limits_kept, set_read, set_value, entry_of, set_side_of, par_value, par_read_alone, par_side_of, par_default, par_table, par_read, par_entries, brackets_of, set_brackets_of, name_of, declared_of, doing_of, doing_at, printed_tuple}
+use Rattle.zim_parse.specs.StatementParser.{options_of, each_once, table_rows, given_of, limits_kept, set_read, set_value, entry_of, set_side_of, par_value, par_read_alone, par_side_of, par_default, par_table, par_read, par_entries, brackets_of, set_brackets_of, name_of, declared_of, doing_of, doing_at, printed_tuple}
 
 -- what a parameter over a set is declared to be
 unfoldable pub par_listed : Inner → Parser ParSide
@@ -43,7 +43,7 @@ row_end inner columns items ts = and_then (items_of (inner unary) ts) (λ values
 
 -- the rows of a table behind its head
 unfoldable pub table_end : Inner → List Expr → Parser Table
-table_end inner head ts = and_then (rows_of inner (length head) (suc (length ts)) ts) (λ rows left. Some (record { head = head; rows = rows }, left))
+table_end inner head ts = and_then (table_rows inner (length head) (suc (length ts)) ts) (λ rows left. Some (record { head = head; rows = rows }, left))
 
 -- the options of a variable behind its bounds
 unfoldable pub var_end : Inner → Option Bracket → Option Word → List Limit → Parser Shape

@@ -1,6 +1,6 @@
 //! The expressions of statements.
 
-ghost use Rattle.zim_parse_expression.specs.Outcome.{Gives, level_wanted};
+ghost use Rattle.zim_parse_expression.specs.Outcome.{IsParsed, level_wanted};
 ghost use Rattle.zim_parse_expression.specs.Parser as parser;
 ghost use Rattle.zim_parse_expression.specs.Parser.{parse};
 
@@ -22,42 +22,42 @@ pub struct Grammar {
 impl Grammar {
     /// An expression of this level.
     pub fn expression(&self, tokens: &mut Tokens<'_>, level: Wanted) -> Result<Expr, Failure>
-        ensures { Gives (parse self.now.depth (level_wanted level) tokens.old) result tokens.new }
+        ensures { IsParsed (parse self.now.depth (level_wanted level) tokens.old) result tokens.new }
     {
         expression(self.alloc, tokens, self.depth, level)
     }
 
     /// The same in a box.
     pub fn boxed(&self, tokens: &mut Tokens<'_>, level: Wanted) -> Result<Boxed<Expr>, Failure>
-        ensures { Gives (parse self.now.depth (level_wanted level) tokens.old) result tokens.new }
+        ensures { IsParsed (parse self.now.depth (level_wanted level) tokens.old) result tokens.new }
     {
         Ok(Boxed::new(self.alloc, self.expression(tokens, level)?)?)
     }
 
     /// One or more expressions with commas between them.
     pub fn exprs(&self, tokens: &mut Tokens<'_>, level: Wanted) -> Result<Items<Expr>, Failure>
-        ensures { Gives (parser.items_of (parse self.now.depth (level_wanted level)) tokens.old) result tokens.new }
+        ensures { IsParsed (parser.items_of (parse self.now.depth (level_wanted level)) tokens.old) result tokens.new }
     {
         expressions(self.alloc, tokens, self.depth, level)
     }
 
     /// Arguments, and `)`.
     pub fn arguments(&self, tokens: &mut Tokens<'_>) -> Result<Items<Expr>, Failure>
-        ensures { Gives (parser.arguments (parse self.now.depth) tokens.old) result tokens.new }
+        ensures { IsParsed (parser.arguments (parse self.now.depth) tokens.old) result tokens.new }
     {
         arguments(self.alloc, tokens, self.depth)
     }
 
     /// `<a, b>`
     pub fn tuple(&self, tokens: &mut Tokens<'_>) -> Result<Angle, Failure>
-        ensures { Gives (parser.tuple_of (parse self.now.depth) tokens.old) result tokens.new }
+        ensures { IsParsed (parser.tuple_of (parse self.now.depth) tokens.old) result tokens.new }
     {
         tuple(self.alloc, tokens, self.depth)
     }
 
     /// `<i, j> in set with condition`
     pub fn index(&self, tokens: &mut Tokens<'_>) -> Result<Boxed<Index>, Failure>
-        ensures { Gives (parser.index_from (parse self.now.depth) tokens.old) result tokens.new }
+        ensures { IsParsed (parser.index_from (parse self.now.depth) tokens.old) result tokens.new }
     {
         index(self.alloc, tokens, self.depth)
     }

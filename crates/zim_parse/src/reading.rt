@@ -1,7 +1,7 @@
 //! `read`, entries, tables and defaults.
 
 ghost use Rattle.std.specs.Prelude.{length};
-ghost use Rattle.zim_parse_expression.specs.Outcome.{Gives, word_test};
+ghost use Rattle.zim_parse_expression.specs.Outcome.{IsParsed, word_test};
 ghost use Rattle.zim_parse_expression.specs.Parser as parser;
 ghost use Rattle.zim_parse_expression.specs.Parser.{parse};
 ghost use Rattle.zim_parse.specs.StatementParser as spec;
@@ -20,7 +20,7 @@ impl Grammar {
     /// The next option of a `read` with its operand, if one comes next.
     #[tactic(auto, unfolding(crate::specs::StatementTurns::option_turn, zim_parse_expression::specs::Parser::and_then))]
     fn next_option(&self, tokens: &mut Tokens<'_>) -> Result<Option<(Place, Word, Expr)>, Failure>
-        ensures { Gives (option_turn (parse self.now.depth) tokens.old) result tokens.new }
+        ensures { IsParsed (option_turn (parse self.now.depth) tokens.old) result tokens.new }
     {
         let Some((place, word)) = tokens.eat_option() else {
             return Ok(None);
@@ -31,7 +31,7 @@ impl Grammar {
 
     /// The options that come next.
     fn options(&self, tokens: &mut Tokens<'_>) -> Result<Items<(Place, Word, Expr)>, Failure>
-        ensures { Gives (repeat (option_turn (parse self.now.depth)) (length tokens.old) tokens.old) result tokens.new }
+        ensures { IsParsed (repeat (option_turn (parse self.now.depth)) (length tokens.old) tokens.old) result tokens.new }
     {
         repeat(
             self.alloc,
@@ -50,7 +50,7 @@ impl Grammar {
         file: Boxed<Expr>,
         template: Boxed<Expr>,
     ) -> Result<Reading, Failure>
-        ensures { Gives (steps.reading_end (parse self.now.depth) place file template tokens.old) result tokens.new }
+        ensures { IsParsed (steps.reading_end (parse self.now.depth) place file template tokens.old) result tokens.new }
     {
         let options = self.options(tokens)?;
         if !each_once(options.as_slice()) {
@@ -67,7 +67,7 @@ impl Grammar {
     /// A `read` with its options.
     #[tactic(auto, unfolding(crate::specs::StatementParser::reading_of, crate::specs::StatementSteps::reading_end, zim_parse_expression::specs::Parser::and_then))]
     pub fn reading(&self, tokens: &mut Tokens<'_>) -> Result<Reading, Failure>
-        ensures { Gives (spec.reading_of (parse self.now.depth) tokens.old) result tokens.new }
+        ensures { IsParsed (spec.reading_of (parse self.now.depth) tokens.old) result tokens.new }
     {
         tokens.expect_word(Word::WRead)?;
         let file = self.boxed(tokens, Wanted::Sum)?;
@@ -79,7 +79,7 @@ impl Grammar {
     /// An index and what belongs to it.
     #[tactic(auto, unfolding(crate::specs::StatementParser::entry_of, zim_parse_expression::specs::Parser::and_then))]
     fn entry(&self, tokens: &mut Tokens<'_>) -> Result<(Angle, Expr), Failure>
-        ensures { Gives (spec.entry_of (parse self.now.depth) tokens.old) result tokens.new }
+        ensures { IsParsed (spec.entry_of (parse self.now.depth) tokens.old) result tokens.new }
     {
         let tuple = self.tuple(tokens)?;
         let given = self.expression(tokens, Wanted::Sum)?;
@@ -88,7 +88,7 @@ impl Grammar {
 
     /// One or more entries with commas between them.
     pub fn entries(&self, tokens: &mut Tokens<'_>) -> Result<Items<(Angle, Expr)>, Failure>
-        ensures { Gives (parser.items_of (spec.entry_of (parse self.now.depth)) tokens.old) result tokens.new }
+        ensures { IsParsed (parser.items_of (spec.entry_of (parse self.now.depth)) tokens.old) result tokens.new }
     {
         items_of(self.alloc, tokens, |left| self.entry(left))
     }
@@ -100,7 +100,7 @@ impl Grammar {
         tokens: &mut Tokens<'_>,
         word: Word,
     ) -> Result<Option<(Place, Boxed<Expr>)>, Failure>
-        ensures { Gives (spec.given_of (parse self.now.depth) (word_test word) tokens.old) result tokens.new }
+        ensures { IsParsed (spec.given_of (parse self.now.depth) (word_test word) tokens.old) result tokens.new }
     {
         match tokens.eat_word(word) {
             None => Ok(None),
@@ -119,7 +119,7 @@ impl Grammar {
         columns: usize,
         items: Items<Expr>,
     ) -> Result<(Items<Expr>, Items<Expr>), Failure>
-        ensures { Gives (steps.row_end (parse self.now.depth) columns items tokens.old) result tokens.new }
+        ensures { IsParsed (steps.row_end (parse self.now.depth) columns items tokens.old) result tokens.new }
     {
         let values = self.exprs(tokens, Wanted::Unary)?;
         tokens.expect_sign(Sign::SBar)?;
@@ -130,13 +130,13 @@ impl Grammar {
     }
 
     /// A row of a table behind its first bar, with as many values as there are columns.
-    #[tactic(auto, unfolding(crate::specs::StatementParser::row_of, crate::specs::StatementSteps::row_end, zim_parse_expression::specs::Parser::and_then))]
+    #[tactic(auto, unfolding(crate::specs::StatementParser::table_row, crate::specs::StatementSteps::row_end, zim_parse_expression::specs::Parser::and_then))]
     fn row(
         &self,
         tokens: &mut Tokens<'_>,
         columns: usize,
     ) -> Result<(Items<Expr>, Items<Expr>), Failure>
-        ensures { Gives (spec.row_of (parse self.now.depth) columns tokens.old) result tokens.new }
+        ensures { IsParsed (spec.table_row (parse self.now.depth) columns tokens.old) result tokens.new }
     {
         let items = self.exprs(tokens, Wanted::Unary)?;
         tokens.expect_sign(Sign::SBar)?;
@@ -150,7 +150,7 @@ impl Grammar {
         columns: usize,
         turns: usize,
     ) -> Result<Items<(Items<Expr>, Items<Expr>)>, Failure>
-        ensures { Gives (spec.rows_of (parse self.now.depth) columns turns tokens.old) result tokens.new }
+        ensures { IsParsed (spec.table_rows (parse self.now.depth) columns turns tokens.old) result tokens.new }
     {
         let mut rows = Items::new(self.alloc);
         for _turn in 0..turns {
@@ -167,7 +167,7 @@ impl Grammar {
     /// The rows of a table behind its head.
     #[tactic(auto, unfolding(crate::specs::StatementSteps::table_end, zim_parse_expression::specs::Parser::and_then))]
     fn table_end(&self, tokens: &mut Tokens<'_>, head: Items<Expr>) -> Result<Table, Failure>
-        ensures { Gives (steps.table_end (parse self.now.depth) head tokens.old) result tokens.new }
+        ensures { IsParsed (steps.table_end (parse self.now.depth) head tokens.old) result tokens.new }
     {
         let turns = tokens.len() + 1;
         let rows = self.rows(tokens, head.len(), turns)?;
@@ -175,9 +175,9 @@ impl Grammar {
     }
 
     /// A table behind its first bar.
-    #[tactic(auto, unfolding(crate::specs::StatementParser::table_of, crate::specs::StatementSteps::table_end, zim_parse_expression::specs::Parser::and_then))]
+    #[tactic(auto, unfolding(crate::specs::StatementParser::table_behind, crate::specs::StatementSteps::table_end, zim_parse_expression::specs::Parser::and_then))]
     pub fn table(&self, tokens: &mut Tokens<'_>) -> Result<Table, Failure>
-        ensures { Gives (spec.table_of (parse self.now.depth) tokens.old) result tokens.new }
+        ensures { IsParsed (spec.table_behind (parse self.now.depth) tokens.old) result tokens.new }
     {
         let head = self.exprs(tokens, Wanted::Unary)?;
         tokens.expect_sign(Sign::SBar)?;

@@ -1,7 +1,7 @@
 //! What sets, parameters and variables are declared to be.
 
 ghost use Rattle.std.specs.Prelude.{◌≡◌, length};
-ghost use Rattle.zim_parse_expression.specs.Outcome.{Gives};
+ghost use Rattle.zim_parse_expression.specs.Outcome.{IsParsed};
 ghost use Rattle.zim_parse_expression.specs.Parser.{parse};
 ghost use Rattle.zim_parse.specs.StatementParser as spec;
 ghost use Rattle.zim_parse.specs.StatementSteps as steps;
@@ -27,7 +27,7 @@ impl Grammar {
     /// A set that is read, in its braces.
     #[tactic(auto, unfolding(zim_parse_expression::specs::Parser::and_then))]
     fn set_read(&self, tokens: &mut Tokens<'_>) -> Result<SetSide, Failure>
-        ensures { Gives (spec.set_read (parse self.now.depth) tokens.old) result tokens.new }
+        ensures { IsParsed (spec.set_read (parse self.now.depth) tokens.old) result tokens.new }
     {
         tokens.expect_sign(Sign::SLeftBrace)?;
         let reading = self.reading(tokens)?;
@@ -38,7 +38,7 @@ impl Grammar {
     /// A set by its value.
     #[tactic(auto, unfolding(zim_parse_expression::specs::Parser::and_then))]
     fn set_value(&self, tokens: &mut Tokens<'_>) -> Result<SetSide, Failure>
-        ensures { Gives (spec.set_value (parse self.now.depth) tokens.old) result tokens.new }
+        ensures { IsParsed (spec.set_value (parse self.now.depth) tokens.old) result tokens.new }
     {
         let value = self.boxed(tokens, Wanted::Sum)?;
         Ok(SetSide::Value(value))
@@ -47,7 +47,7 @@ impl Grammar {
     /// A call of `powerset` or `subsets`.
     #[tactic(auto, unfolding(zim_parse_expression::specs::Parser::and_then))]
     fn family(&self, tokens: &mut Tokens<'_>) -> Result<SetSide, Failure>
-        ensures { Gives (spec.family_of (parse self.now.depth) tokens.old) result tokens.new }
+        ensures { IsParsed (spec.family_call (parse self.now.depth) tokens.old) result tokens.new }
     {
         let Some(first) = tokens.take() else {
             return Err(Failure::Syntax);
@@ -67,7 +67,7 @@ impl Grammar {
     /// What a set without brackets is declared to be.
     #[tactic(auto, unfolding(crate::specs::StatementSteps::set_alone, zim_parse_expression::specs::Parser::and_then))]
     fn set_alone(&self, tokens: &mut Tokens<'_>) -> Result<SetSide, Failure>
-        ensures { Gives (steps.set_alone (parse self.now.depth) tokens.old) result tokens.new }
+        ensures { IsParsed (steps.set_alone (parse self.now.depth) tokens.old) result tokens.new }
     {
         if tokens.begins_read() {
             self.set_read(tokens)
@@ -79,7 +79,7 @@ impl Grammar {
     /// The sets of a family, each behind its index.
     #[tactic(auto, unfolding(crate::specs::StatementSteps::set_entries, zim_parse_expression::specs::Parser::and_then))]
     fn set_entries(&self, tokens: &mut Tokens<'_>) -> Result<SetSide, Failure>
-        ensures { Gives (steps.set_entries (parse self.now.depth) tokens.old) result tokens.new }
+        ensures { IsParsed (steps.set_entries (parse self.now.depth) tokens.old) result tokens.new }
     {
         let entries = self.entries(tokens)?;
         Ok(SetSide::Entries(entries))
@@ -92,7 +92,7 @@ impl Grammar {
         tokens: &mut Tokens<'_>,
         brackets: Option<Bracket>,
     ) -> Result<Shape, Failure>
-        ensures { Gives (steps.set_end (parse self.now.depth) brackets tokens.old) result tokens.new }
+        ensures { IsParsed (steps.set_end (parse self.now.depth) brackets tokens.old) result tokens.new }
     {
         match brackets {
             None => {
@@ -117,7 +117,7 @@ impl Grammar {
     /// A parameter by its value.
     #[tactic(auto, unfolding(zim_parse_expression::specs::Parser::and_then))]
     fn par_value(&self, tokens: &mut Tokens<'_>) -> Result<ParSide, Failure>
-        ensures { Gives (spec.par_value (parse self.now.depth) tokens.old) result tokens.new }
+        ensures { IsParsed (spec.par_value (parse self.now.depth) tokens.old) result tokens.new }
     {
         let value = self.boxed(tokens, Wanted::Disjunction)?;
         Ok(ParSide::Value(value))
@@ -126,7 +126,7 @@ impl Grammar {
     /// A parameter that is read, with a default.
     #[tactic(auto, unfolding(zim_parse_expression::specs::Parser::and_then))]
     fn par_read(&self, tokens: &mut Tokens<'_>) -> Result<ParSide, Failure>
-        ensures { Gives (spec.par_read (parse self.now.depth) tokens.old) result tokens.new }
+        ensures { IsParsed (spec.par_read (parse self.now.depth) tokens.old) result tokens.new }
     {
         let reading = self.reading(tokens)?;
         let default = self.given(tokens, Word::WDefault)?;
@@ -136,7 +136,7 @@ impl Grammar {
     /// A parameter without index that is read.
     #[tactic(auto, unfolding(zim_parse_expression::specs::Parser::and_then))]
     fn par_read_alone(&self, tokens: &mut Tokens<'_>) -> Result<ParSide, Failure>
-        ensures { Gives (spec.par_read_alone (parse self.now.depth) tokens.old) result tokens.new }
+        ensures { IsParsed (spec.par_read_alone (parse self.now.depth) tokens.old) result tokens.new }
     {
         let reading = self.reading(tokens)?;
         Ok(ParSide::Read(reading, None))
@@ -145,7 +145,7 @@ impl Grammar {
     /// What a parameter without brackets is declared to be.
     #[tactic(auto, unfolding(crate::specs::StatementSteps::par_alone, zim_parse_expression::specs::Parser::and_then))]
     fn par_alone(&self, tokens: &mut Tokens<'_>) -> Result<ParSide, Failure>
-        ensures { Gives (steps.par_alone (parse self.now.depth) tokens.old) result tokens.new }
+        ensures { IsParsed (steps.par_alone (parse self.now.depth) tokens.old) result tokens.new }
     {
         if tokens.sees_word(Word::WRead) {
             self.par_read_alone(tokens)
@@ -157,7 +157,7 @@ impl Grammar {
     /// A parameter in a table, with a default.
     #[tactic(auto, unfolding(zim_parse_expression::specs::Parser::and_then))]
     fn par_table(&self, tokens: &mut Tokens<'_>) -> Result<ParSide, Failure>
-        ensures { Gives (spec.par_table (parse self.now.depth) tokens.old) result tokens.new }
+        ensures { IsParsed (spec.par_table (parse self.now.depth) tokens.old) result tokens.new }
     {
         tokens.expect_sign(Sign::SBar)?;
         let table = self.table(tokens)?;
@@ -168,7 +168,7 @@ impl Grammar {
     /// A parameter by its entries, with a default.
     #[tactic(auto, unfolding(zim_parse_expression::specs::Parser::and_then))]
     fn par_entries(&self, tokens: &mut Tokens<'_>) -> Result<ParSide, Failure>
-        ensures { Gives (spec.par_entries (parse self.now.depth) tokens.old) result tokens.new }
+        ensures { IsParsed (spec.par_entries (parse self.now.depth) tokens.old) result tokens.new }
     {
         let entries = self.entries(tokens)?;
         let default = self.given(tokens, Word::WDefault)?;
@@ -178,7 +178,7 @@ impl Grammar {
     /// A parameter by its default alone.
     #[tactic(auto, unfolding(zim_parse_expression::specs::Parser::and_then))]
     fn par_default(&self, tokens: &mut Tokens<'_>) -> Result<ParSide, Failure>
-        ensures { Gives (spec.par_default (parse self.now.depth) tokens.old) result tokens.new }
+        ensures { IsParsed (spec.par_default (parse self.now.depth) tokens.old) result tokens.new }
     {
         let place = tokens.expect_word(Word::WDefault)?;
         let value = self.boxed(tokens, Wanted::Sum)?;
@@ -188,7 +188,7 @@ impl Grammar {
     /// What a parameter over a set is declared to be.
     #[tactic(auto, unfolding(crate::specs::StatementSteps::par_listed, zim_parse_expression::specs::Parser::and_then))]
     fn par_listed(&self, tokens: &mut Tokens<'_>) -> Result<ParSide, Failure>
-        ensures { Gives (steps.par_listed (parse self.now.depth) tokens.old) result tokens.new }
+        ensures { IsParsed (steps.par_listed (parse self.now.depth) tokens.old) result tokens.new }
     {
         if tokens.sees_word(Word::WDefault) {
             self.par_default(tokens)
@@ -208,7 +208,7 @@ impl Grammar {
         tokens: &mut Tokens<'_>,
         brackets: Option<Bracket>,
     ) -> Result<Shape, Failure>
-        ensures { Gives (steps.param_end (parse self.now.depth) brackets tokens.old) result tokens.new }
+        ensures { IsParsed (steps.param_end (parse self.now.depth) brackets tokens.old) result tokens.new }
     {
         match brackets {
             None => {
@@ -230,7 +230,7 @@ impl Grammar {
     /// What stands in brackets: an index or a set.
     #[tactic(auto, unfolding(crate::specs::StatementSteps::bracket_inside, zim_parse_expression::specs::Parser::and_then))]
     fn bracket_inside(&self, tokens: &mut Tokens<'_>) -> Result<Bracket, Failure>
-        ensures { Gives (steps.bracket_inside (parse self.now.depth) tokens.old) result tokens.new }
+        ensures { IsParsed (steps.bracket_inside (parse self.now.depth) tokens.old) result tokens.new }
     {
         if tokens.begins_less() {
             let index = self.index(tokens)?;
@@ -244,7 +244,7 @@ impl Grammar {
     /// What stands behind `[`, and `]`.
     #[tactic(auto, using(crate::proofs::StatementForms::bracket_next), unfolding(zim_parse_expression::specs::Parser::and_then))]
     fn bracket(&self, tokens: &mut Tokens<'_>) -> Result<Bracket, Failure>
-        ensures { Gives (spec.bracket_of (parse self.now.depth) tokens.old) result tokens.new }
+        ensures { IsParsed (spec.bracket_of (parse self.now.depth) tokens.old) result tokens.new }
     {
         let inside = self.bracket_inside(tokens)?;
         tokens.expect(Terminal::RightBracket)?;
@@ -254,7 +254,7 @@ impl Grammar {
     /// Brackets that aren't empty, or none.
     #[tactic(auto, unfolding(crate::specs::StatementParser::brackets_of, zim_parse_expression::specs::Parser::and_then))]
     pub fn brackets(&self, tokens: &mut Tokens<'_>) -> Result<Option<Bracket>, Failure>
-        ensures { Gives (spec.brackets_of (parse self.now.depth) tokens.old) result tokens.new }
+        ensures { IsParsed (spec.brackets_of (parse self.now.depth) tokens.old) result tokens.new }
     {
         if tokens.eat_sign(Sign::SLeftBracket).is_none() {
             return Ok(None);
@@ -266,7 +266,7 @@ impl Grammar {
     /// Brackets that may be empty, or none.
     #[tactic(auto, unfolding(crate::specs::StatementParser::set_brackets_of, zim_parse_expression::specs::Parser::and_then))]
     pub fn set_brackets(&self, tokens: &mut Tokens<'_>) -> Result<Option<Bracket>, Failure>
-        ensures { Gives (spec.set_brackets_of (parse self.now.depth) tokens.old) result tokens.new }
+        ensures { IsParsed (spec.set_brackets_of (parse self.now.depth) tokens.old) result tokens.new }
     {
         if tokens.eat_sign(Sign::SLeftBracket).is_none() {
             return Ok(None);
@@ -281,7 +281,7 @@ impl Grammar {
     /// The next bound of a variable, if one comes next.
     #[tactic(auto, unfolding(crate::specs::StatementTurns::limit_turn, zim_parse_expression::specs::Parser::and_then))]
     fn next_limit(&self, tokens: &mut Tokens<'_>) -> Result<Option<Limit>, Failure>
-        ensures { Gives (limit_turn (parse self.now.depth) tokens.old) result tokens.new }
+        ensures { IsParsed (limit_turn (parse self.now.depth) tokens.old) result tokens.new }
     {
         let Some((place, lower)) = tokens.eat_limit() else {
             return Ok(None);
@@ -292,7 +292,7 @@ impl Grammar {
 
     /// The bounds of a variable that come next.
     fn limits(&self, tokens: &mut Tokens<'_>) -> Result<Items<Limit>, Failure>
-        ensures { Gives (repeat (limit_turn (parse self.now.depth)) (length tokens.old) tokens.old) result tokens.new }
+        ensures { IsParsed (repeat (limit_turn (parse self.now.depth)) (length tokens.old) tokens.old) result tokens.new }
     {
         repeat(
             self.alloc,
@@ -311,7 +311,7 @@ impl Grammar {
         kind: Option<Word>,
         limits: Items<Limit>,
     ) -> Result<Shape, Failure>
-        ensures { Gives (steps.var_end (parse self.now.depth) brackets kind limits tokens.old) result tokens.new }
+        ensures { IsParsed (steps.var_end (parse self.now.depth) brackets kind limits tokens.old) result tokens.new }
     {
         let priority = self.given(tokens, Word::WPriority)?;
         let startval = self.given(tokens, Word::WStartval)?;
@@ -324,7 +324,7 @@ impl Grammar {
     /// A variable behind its name.
     #[tactic(auto, using(crate::proofs::StatementTurns::limits_by_turns), unfolding(crate::specs::StatementParser::var_of, crate::specs::StatementSteps::var_end, zim_parse_expression::specs::Parser::and_then))]
     pub fn variable(&self, tokens: &mut Tokens<'_>) -> Result<Shape, Failure>
-        ensures { Gives (spec.var_of (parse self.now.depth) tokens.old) result tokens.new }
+        ensures { IsParsed (spec.var_of (parse self.now.depth) tokens.old) result tokens.new }
     {
         let brackets = self.brackets(tokens)?;
         let kind = tokens.eat_kind();

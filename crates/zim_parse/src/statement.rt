@@ -1,7 +1,7 @@
 //! Statements.
 
 ghost use Rattle.std.specs.Prelude.{◌≡◌, length};
-ghost use Rattle.zim_parse_expression.specs.Outcome.{Gives};
+ghost use Rattle.zim_parse_expression.specs.Outcome.{IsParsed};
 ghost use Rattle.zim_parse_expression.specs.Parser as parser;
 ghost use Rattle.zim_parse_expression.specs.Parser.{parse};
 ghost use Rattle.zim_parse.specs.StatementParser as spec;
@@ -17,7 +17,7 @@ use zim_tree::{Doing, Printed, Shape, Stmt};
 /// A name that comes next, with its place.
 #[tactic(auto, unfolding(crate::specs::StatementParser::name_of))]
 fn name(tokens: &mut Tokens<'_>) -> Result<(Place, Bytes), Failure>
-    ensures { Gives (spec.name_of tokens.old) result tokens.new }
+    ensures { IsParsed (spec.name_of tokens.old) result tokens.new }
 {
     let Some(first) = tokens.take() else {
         return Err(Failure::Syntax);
@@ -31,7 +31,7 @@ fn name(tokens: &mut Tokens<'_>) -> Result<(Place, Bytes), Failure>
 /// The parameters of a function behind `(`, and `)`.
 #[tactic(auto, unfolding(zim_parse_expression::specs::Parser::items_of, zim_parse_expression::specs::Parser::and_then))]
 fn parameters(alloc: Global, tokens: &mut Tokens<'_>) -> Result<Items<(Place, Bytes)>, Failure>
-    ensures { Gives (spec.parameters_of tokens.old) result tokens.new }
+    ensures { IsParsed (spec.parameters_of tokens.old) result tokens.new }
 {
     if tokens.eat(Terminal::RightParen).is_some() {
         return Ok(Items::new(alloc));
@@ -45,7 +45,7 @@ impl Grammar {
     /// A value that is printed.
     #[tactic(auto, unfolding(crate::specs::StatementSteps::printed_value, zim_parse_expression::specs::Parser::and_then))]
     fn printed_value(&self, tokens: &mut Tokens<'_>) -> Result<Printed, Failure>
-        ensures { Gives (steps.printed_value (parse self.now.depth) tokens.old) result tokens.new }
+        ensures { IsParsed (steps.printed_value (parse self.now.depth) tokens.old) result tokens.new }
     {
         let value = self.boxed(tokens, Wanted::Disjunction)?;
         Ok(Printed::Value(value))
@@ -54,7 +54,7 @@ impl Grammar {
     /// Something that begins with `<` and is printed: a tuple, unless `in` follows it.
     #[tactic(auto, unfolding(crate::specs::StatementSteps::printed_less, crate::specs::StatementSteps::printed_value, zim_parse_expression::specs::Parser::and_then))]
     fn printed_less(&self, tokens: &mut Tokens<'_>) -> Result<Printed, Failure>
-        ensures { Gives (steps.printed_less (parse self.now.depth) tokens.old) result tokens.new }
+        ensures { IsParsed (steps.printed_less (parse self.now.depth) tokens.old) result tokens.new }
     {
         let mut ahead = tokens.ahead();
         let tuple = self.tuple(&mut ahead)?;
@@ -68,7 +68,7 @@ impl Grammar {
     /// Something that is printed.
     #[tactic(auto, using(crate::proofs::StatementForms::printed_next), unfolding(zim_parse_expression::specs::Parser::and_then))]
     fn printed(&self, tokens: &mut Tokens<'_>) -> Result<Printed, Failure>
-        ensures { Gives (spec.printed_of (parse self.now.depth) tokens.old) result tokens.new }
+        ensures { IsParsed (spec.printed_of (parse self.now.depth) tokens.old) result tokens.new }
     {
         if tokens.begins_less() {
             self.printed_less(tokens)
@@ -79,7 +79,7 @@ impl Grammar {
 
     /// One or more printed items with commas between them.
     fn all_printed(&self, tokens: &mut Tokens<'_>) -> Result<Items<Printed>, Failure>
-        ensures { Gives (parser.items_of (spec.printed_of (parse self.now.depth)) tokens.old) result tokens.new }
+        ensures { IsParsed (parser.items_of (spec.printed_of (parse self.now.depth)) tokens.old) result tokens.new }
     {
         items_of(self.alloc, tokens, |left| self.printed(left))
     }
@@ -87,7 +87,7 @@ impl Grammar {
     /// What a `do` does, at most so many loops deep.
     #[cycle(doing)]
     fn doing(&self, tokens: &mut Tokens<'_>, loops: usize) -> Result<Doing, Failure>
-        ensures { Gives (spec.doing_of (parse self.now.depth) loops tokens.old) result tokens.new }
+        ensures { IsParsed (spec.doing_of (parse self.now.depth) loops tokens.old) result tokens.new }
     {
         if loops == 0 {
             return Err(Failure::Syntax);
@@ -99,7 +99,7 @@ impl Grammar {
     #[tactic(auto, unfolding(crate::specs::StatementSteps::doing_by, zim_parse_expression::specs::Parser::and_then))]
     #[cycle(doing)]
     fn doing_by(&self, tokens: &mut Tokens<'_>, loops: usize) -> Result<Doing, Failure>
-        ensures { Gives (steps.doing_by (parse self.now.depth) (spec.doing_of (parse self.now.depth) loops) tokens.old) result tokens.new }
+        ensures { IsParsed (steps.doing_by (parse self.now.depth) (spec.doing_of (parse self.now.depth) loops) tokens.old) result tokens.new }
     {
         let Some(first) = tokens.take() else {
             return Err(Failure::Syntax);
@@ -129,7 +129,7 @@ impl Grammar {
     /// An objective behind its name.
     #[tactic(auto, unfolding(zim_parse_expression::specs::Parser::and_then))]
     fn goal(&self, tokens: &mut Tokens<'_>, maximize: bool) -> Result<Shape, Failure>
-        ensures { Gives (spec.goal_of (parse self.now.depth) maximize tokens.old) result tokens.new }
+        ensures { IsParsed (spec.goal_of (parse self.now.depth) maximize tokens.old) result tokens.new }
     {
         tokens.expect_sign(Sign::SColon)?;
         let objective = self.boxed(tokens, Wanted::Sum)?;
@@ -139,7 +139,7 @@ impl Grammar {
     /// A constraint behind its name.
     #[tactic(auto, unfolding(crate::specs::StatementSteps::constraint_of, zim_parse_expression::specs::Parser::and_then))]
     fn constraint(&self, tokens: &mut Tokens<'_>) -> Result<Shape, Failure>
-        ensures { Gives (steps.constraint_of (parse self.now.depth) tokens.old) result tokens.new }
+        ensures { IsParsed (steps.constraint_of (parse self.now.depth) tokens.old) result tokens.new }
     {
         tokens.expect_sign(Sign::SColon)?;
         let constraint = self.boxed(tokens, Wanted::Whole)?;
@@ -149,7 +149,7 @@ impl Grammar {
     /// A function behind its name.
     #[tactic(auto, unfolding(zim_parse_expression::specs::Parser::and_then))]
     fn definition(&self, tokens: &mut Tokens<'_>, word: Word) -> Result<Shape, Failure>
-        ensures { Gives (spec.definition_of (parse self.now.depth) word tokens.old) result tokens.new }
+        ensures { IsParsed (spec.definition_of (parse self.now.depth) word tokens.old) result tokens.new }
     {
         tokens.expect(Terminal::LeftParen)?;
         let parameters = parameters(self.alloc, tokens)?;
@@ -161,7 +161,7 @@ impl Grammar {
     /// A set behind its name.
     #[tactic(auto, unfolding(crate::specs::StatementSteps::set_of, zim_parse_expression::specs::Parser::and_then))]
     fn set(&self, tokens: &mut Tokens<'_>) -> Result<Shape, Failure>
-        ensures { Gives (steps.set_of (parse self.now.depth) tokens.old) result tokens.new }
+        ensures { IsParsed (steps.set_of (parse self.now.depth) tokens.old) result tokens.new }
     {
         let brackets = self.set_brackets(tokens)?;
         tokens.expect_sign(Sign::SAssign)?;
@@ -171,7 +171,7 @@ impl Grammar {
     /// A parameter behind its name.
     #[tactic(auto, unfolding(crate::specs::StatementSteps::param_of, zim_parse_expression::specs::Parser::and_then))]
     fn param(&self, tokens: &mut Tokens<'_>) -> Result<Shape, Failure>
-        ensures { Gives (steps.param_of (parse self.now.depth) tokens.old) result tokens.new }
+        ensures { IsParsed (steps.param_of (parse self.now.depth) tokens.old) result tokens.new }
     {
         let brackets = self.brackets(tokens)?;
         tokens.expect_sign(Sign::SAssign)?;
@@ -181,7 +181,7 @@ impl Grammar {
     /// What a statement that begins with this word says of its name.
     #[tactic(auto, unfolding(crate::specs::StatementSteps::set_of, crate::specs::StatementSteps::set_end, crate::specs::StatementSteps::param_of, crate::specs::StatementSteps::param_end, crate::specs::StatementSteps::constraint_of, zim_parse_expression::specs::Parser::and_then))]
     fn declared(&self, tokens: &mut Tokens<'_>, word: Word) -> Result<Shape, Failure>
-        ensures { Gives (spec.declared_of (parse self.now.depth) word tokens.old) result tokens.new }
+        ensures { IsParsed (spec.declared_of (parse self.now.depth) word tokens.old) result tokens.new }
     {
         match word {
             Word::WSet => self.set(tokens),
@@ -200,7 +200,7 @@ impl Grammar {
     /// A `do` behind its word.
     #[tactic(auto, unfolding(crate::specs::StatementSteps::performed_of, zim_parse_expression::specs::Parser::and_then))]
     fn performed(&self, tokens: &mut Tokens<'_>, first: Place) -> Result<Stmt, Failure>
-        ensures { Gives (steps.performed_of (parse self.now.depth) first tokens.old) result tokens.new }
+        ensures { IsParsed (steps.performed_of (parse self.now.depth) first tokens.old) result tokens.new }
     {
         let loops = tokens.len();
         let doing = self.doing(tokens, loops)?;
@@ -220,7 +220,7 @@ impl Grammar {
         first: Place,
         word: Word,
     ) -> Result<Stmt, Failure>
-        ensures { Gives (steps.declaration_of (parse self.now.depth) first word tokens.old) result tokens.new }
+        ensures { IsParsed (steps.declaration_of (parse self.now.depth) first word tokens.old) result tokens.new }
     {
         let (at, name) = name(tokens)?;
         let shape = Boxed::new(self.alloc, self.declared(tokens, word)?)?;
@@ -240,7 +240,7 @@ impl Grammar {
         first: Place,
         word: Word,
     ) -> Result<Stmt, Failure>
-        ensures { Gives (spec.behind_word (parse self.now.depth) first word tokens.old) result tokens.new }
+        ensures { IsParsed (spec.behind_word (parse self.now.depth) first word tokens.old) result tokens.new }
     {
         match word {
             Word::WDo => self.performed(tokens, first),
@@ -249,9 +249,9 @@ impl Grammar {
     }
 
     /// A statement with its `;`.
-    #[tactic(auto, unfolding(crate::specs::StatementParser::statement_of, zim_parse_expression::specs::Parser::and_then))]
+    #[tactic(auto, unfolding(crate::specs::StatementParser::whole_statement, zim_parse_expression::specs::Parser::and_then))]
     pub fn statement(&self, tokens: &mut Tokens<'_>) -> Result<Stmt, Failure>
-        ensures { Gives (spec.statement_of (parse self.now.depth) tokens.old) result tokens.new }
+        ensures { IsParsed (spec.whole_statement (parse self.now.depth) tokens.old) result tokens.new }
     {
         let Some(first) = tokens.take() else {
             return Err(Failure::Syntax);

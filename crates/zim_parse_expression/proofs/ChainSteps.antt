@@ -15,8 +15,8 @@ use Rattle.zim_tree.specs.Trees.{angle_of}
 use Rattle.zim_tree.specs.Classes.{token_class}
 use Rattle.zim_tree.specs.Levels.{sum, comparison, negation, disjunction, whole, Chain, products, sums, relations, conjunctions, disjunctions, level_of, operand_of, joins, Limits, Operands, joined, placed, separator_token}
 use Rattle.zim_scan.specs.Nesting.{class_at}
-use Rattle.zim_parse_expression.specs.Next.{looseness, rank, bound, Start, a_less, start_at, start_of, is_open, opens}
-use Rattle.zim_parse_expression.specs.Parser.{Inner, Parser, and_then, operands_of, turns_of, chain_of, sum_of, member_of, comparison_at, comparison_of, negation_at, negation_of, whole_at, whole_of, disjunction_of, at_level, parse}
+use Rattle.zim_parse_expression.specs.Next.{looseness, rank, level_bound, Start, a_less, start_at, start_of, is_open, opens}
+use Rattle.zim_parse_expression.specs.Parser.{Inner, Parser, and_then, operands_of, turns_of, chain_of, sum_of, member_of, comparison_at, comparison_of, negation_at, negation_of, whole_at, expression_of, disjunction_of, at_level, parse}
 use Rattle.zim_parse_expression.proofs.BeginningLaws.{no, is_term, is_compared, is_joined, allowed, factor_not_open}
 use Rattle.zim_parse_expression.proofs.ListLaws.{joins_rank, operand_below, level_rank, no_operator, one_operator}
 use Rattle.zim_parse_expression.proofs.PrimaryLaws.{Complete, CompleteList, CompleteIndex, deeper, tuple_reads}
@@ -25,7 +25,7 @@ use Rattle.zim_parse_expression.proofs.PrimaryLaws.{Complete, CompleteList, Comp
 pub record CompleteOperands (chain : Chain) (us : List Placed) (others : Operands) : Type 0 where
   pub operators : (n : ℕ) → length us ≤ n → (rest : List Placed) → rank chain < looseness rest → (turns : ℕ) → length others ≤ turns →
       operands_of chain (at_level (parse n) (operand_of chain)) turns (us ++ rest) ≡ Some (others, rest)
-  pub loose : (rest : List Placed) → rank chain < looseness rest → bound (operand_of chain) < looseness (us ++ rest)
+  pub loose : (rest : List Placed) → rank chain < looseness rest → level_bound (operand_of chain) < looseness (us ++ rest)
   pub count : length others ≤ length us
 
 pub complete_no_operand : (chain : Chain) → CompleteOperands chain [] []
@@ -139,8 +139,8 @@ forall_class : (inner : Inner) (k : Class) (t : Placed) (rest : List Placed) →
 forall_class inner class.Forall t rest h = no h
 forall_class inner _ t rest h = refl
 
-no_for_all : (inner : Inner) (ts : List Placed) → is_joined (start_of ts) ≡ true → whole_of inner ts ≡ disjunction_of inner ts
-unfolding whole_of and_then
+no_for_all : (inner : Inner) (ts : List Placed) → is_joined (start_of ts) ≡ true → expression_of inner ts ≡ disjunction_of inner ts
+unfolding expression_of and_then
 no_for_all inner [] h = no h
 no_for_all inner (t ∷ rest) h = forall_class inner (class_at t) t rest h
 
@@ -149,7 +149,7 @@ complete_no_forall {ts = ts} b d = record { reads = λ n h rest s. no_for_all (p
 
 pub complete_forall : (p q : Place) (with_do : Bool) {ts us : List Placed} {index : Index} {e : Expr} → CompleteIndex ts index → Complete whole us e →
     Complete whole (placed p (word_token WForall) ∷ (ts ++ (placed q (separator_token with_do) ∷ us))) (tree.Forall p index with_do e)
-unfolding whole_of and_then
+unfolding expression_of and_then
 complete_forall p q true {ts = ts} {us = us} d e = record {
   reads = λ n h rest s.
       rw (

@@ -16,7 +16,7 @@ use Rattle.zim_tree.specs.Levels.{Level, postfix, power, unary, product, Chain, 
 use Rattle.zim_tree.specs.Grammar.{Reads, ReadsOperands, a_postfix, no_power, a_power, no_sign, a_sign, a_chain, no_operand, an_operand}
 use Rattle.zim_scan.specs.Nesting.{class_at}
 use Rattle.zim_parse_expression.specs.Next.{class_looseness, looseness, rank, is_exclamation, opens}
-use Rattle.zim_parse_expression.specs.Parser.{Inner, Parser, and_then, sign_in, is_minus, marks_of, postfix_of, signed_of, sign_before, power_at, power_behind, power_of, sign_or, signed_or, unary_of, operands_of, turns_of, chain_of, product_of}
+use Rattle.zim_parse_expression.specs.Parser.{Inner, Parser, and_then, sign_of_token, is_minus, marks_of, postfix_of, signed_of, sign_before, power_at, power_behind, power_of, sign_or, signed_or, unary_of, operands_of, turns_of, chain_of, products_of}
 use Rattle.zim_parse_expression.proofs.BeginningLaws.{no}
 use Rattle.zim_parse_expression.proofs.InversionLaws.{then_parts, answer, Split, Got, concluded, prefixed, appended, infixed, Sound}
 use Rattle.zim_parse_expression.proofs.PrimarySoundLaws.{SoundInner, primary_sound}
@@ -57,7 +57,7 @@ is_power : Class → Bool
 is_power class.Power = true
 is_power _ = false
 
-power_back : (token : Token) → is_power (token_class token) ≡ true → (token ≡ sign_token (sign_in token)) × (sign_class (sign_in token) ≡ class.Power)
+power_back : (token : Token) → is_power (token_class token) ≡ true → (token ≡ sign_token (sign_of_token token)) × (sign_class (sign_of_token token) ≡ class.Power)
 unfolding is_power
 power_back (sign_token SCaret) h = (refl, refl)
 power_back (sign_token SStarStar) h = (refl, refl)
@@ -91,8 +91,8 @@ power_class inner s base us class.Power t more ts c sp d e rest h =
     let a = then_parts h in
     let back = power_back t.token (ap is_power c) in
     let x = (postfix_sound inner s).gets (signed_of more).1 a.first a.behind a.was in
-    concluded (Reads power) (a_power t.place (sign_in t.token) (signed_of more).0 back.1 d x.derives)
-    (infixed (placed t.place (sign_token (sign_in t.token))) sp (ap (λ (k : Token). placed t.place k ∷ more) back.0) (appended (signed_split more) x.splits)) a.gave
+    concluded (Reads power) (a_power t.place (sign_of_token t.token) (signed_of more).0 back.1 d x.derives)
+    (infixed (placed t.place (sign_token (sign_of_token t.token))) sp (ap (λ (k : Token). placed t.place k ∷ more) back.0) (appended (signed_split more) x.splits)) a.gave
 power_class inner s base us _ t more ts c sp d e rest h = concluded (Reads power) (no_power d) sp h
 
 power_ended : (inner : Inner) → SoundInner inner → (base : Expr) (us behind ts : List Placed) → Split ts us behind → Reads postfix us base →
@@ -229,5 +229,5 @@ chain_sound chain operand s = record {
       concluded (Reads (level_of chain)) (a_chain chain (limits_kept chain a.behind b.first l.count) d.derives l.derives) (appended d.splits l.splits) b.gave;
 }
 
-pub product_sound : (inner : Inner) → SoundInner inner → Sound (Reads product) (product_of inner)
+pub product_sound : (inner : Inner) → SoundInner inner → Sound (Reads product) (products_of inner)
 product_sound inner s = chain_sound products (unary_of inner) (unary_sound inner s)

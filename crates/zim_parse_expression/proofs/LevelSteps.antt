@@ -14,7 +14,7 @@ use Rattle.zim_tree.specs.declared.classes.Class.TheVariants as class
 use Rattle.zim_tree.specs.Classes.{token_class, word_class, sign_class}
 use Rattle.zim_tree.specs.Levels.{primary, postfix, power, unary, product, big, loop, term, factorial, placed, exclamations, sign_token_of, exponent_sign, separator_token, is_loop}
 use Rattle.zim_scan.specs.Nesting.{class_at}
-use Rattle.zim_parse_expression.specs.Next.{class_looseness, looseness, bound, a_signed, a_signed_loop, start_at, start_of, is_exclamation, is_open, opens}
+use Rattle.zim_parse_expression.specs.Next.{class_looseness, looseness, level_bound, a_signed, a_signed_loop, start_at, start_of, is_exclamation, is_open, opens}
 use Rattle.zim_parse_expression.specs.Parser.{Inner, Parser, and_then, marks_of, postfix_of, signed_of, sign_before, power_at, power_behind, power_of, sign_or, signed_or, big_of, term_behind, term_of, parse}
 use Rattle.zim_parse_expression.proofs.BeginningLaws.{no, is_plain, is_factor, is_bare_loop, factor_not_open}
 use Rattle.zim_parse_expression.proofs.PrimaryLaws.{Complete, CompleteIndex, deeper}
@@ -91,7 +91,7 @@ complete_power p sign signed {ts = ts} {us = us} c b d e = record {
       let last : List Placed = exponent_sign signed ++ us in
       let l1 : length ts ≤ n = omega (arith, length-append ts (placed p (sign_token sign) ∷ last), h) in
       let l2 : length us ≤ n = omega (arith, length-append ts (placed p (sign_token sign) ∷ last), length-append (exponent_sign signed) us, h) in
-      let stops : bound postfix < looseness (placed p (sign_token sign) ∷ (last ++ rest)) = rw c (omega arith) in
+      let stops : level_bound postfix < looseness (placed p (sign_token sign) ∷ (last ++ rest)) = rw c (omega arith) in
       rw (
         append_assoc ts (placed p (sign_token sign) ∷ last) rest,
         d.reads n l1 (placed p (sign_token sign) ∷ (last ++ rest)) stops,
@@ -190,7 +190,7 @@ unfolding term_of term_behind and_then
 complete_product_with_loop p token {ts = ts} {us = us} c b o d e = record {
   reads = λ n h rest s.
       let loose : looseness (placed p token ∷ (us ++ rest)) ≡ 5 = rw (c, o rest) refl in
-      let stops : bound product < looseness (placed p token ∷ (us ++ rest)) = omega (arith, loose) in
+      let stops : level_bound product < looseness (placed p token ∷ (us ++ rest)) = omega (arith, loose) in
       rw (
         append_assoc ts (placed p token ∷ us) rest,
         factor_not_open _ (b (placed p token ∷ (us ++ rest))),

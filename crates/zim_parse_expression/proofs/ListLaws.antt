@@ -8,7 +8,7 @@ use Rattle.zim_tree.specs.declared.expr.Expr.{Expr}
 use Rattle.zim_tree.specs.declared.classes.Class.{Class}
 use Rattle.zim_tree.specs.declared.classes.Class.TheVariants as class
 use Rattle.zim_tree.specs.Levels.{Chain, products, sums, relations, conjunctions, disjunctions, level_of, operand_of, joins, Operands, placed}
-use Rattle.zim_parse_expression.specs.Next.{is_comma, class_looseness, looseness, rank, bound}
+use Rattle.zim_parse_expression.specs.Next.{is_comma, class_looseness, looseness, rank, level_bound}
 use Rattle.zim_parse_expression.specs.Parser.{Parser, and_then, expect, items_behind, items_of, operands_of}
 use Rattle.zim_parse_expression.proofs.BeginningLaws.{no}
 
@@ -69,14 +69,14 @@ joins_rank conjunctions _ b h o = no h
 joins_rank disjunctions class.OrOrXor b h o = refl
 joins_rank disjunctions _ b h o = no h
 
-pub operand_below : (chain : Chain) → bound (operand_of chain) < rank chain
+pub operand_below : (chain : Chain) → level_bound (operand_of chain) < rank chain
 operand_below products = omega arith
 operand_below sums = omega arith
 operand_below relations = omega arith
 operand_below conjunctions = omega arith
 operand_below disjunctions = omega arith
 
-pub level_rank : (chain : Chain) → bound (level_of chain) ≡ rank chain
+pub level_rank : (chain : Chain) → level_bound (level_of chain) ≡ rank chain
 level_rank products = refl
 level_rank sums = refl
 level_rank relations = refl

@@ -17,12 +17,12 @@ use Rattle.zim_tree.specs.Trees.{angle_of, index_of}
 use Rattle.zim_tree.specs.Classes.{word_class}
 use Rattle.zim_tree.specs.Levels.{Level, primary, postfix, power, unary, product, big, loop, term, sum, comparison, negation, conjunction, disjunction, whole, placed, condition_token, truth_token, if_token, is_function}
 use Rattle.zim_scan.specs.Nesting.{class_at}
-use Rattle.zim_parse_expression.specs.Next.{class_looseness, looseness, bound, start_at, start_of, is_right_paren, opens}
-use Rattle.zim_parse_expression.specs.Parser.{Inner, and_then, expect, flag_of, condition_in, items_of, tuple_of, index_behind, index_from, body_of, arguments, name_at, named, if_from, function_from, projection_from, word_at, primary_of, at_level, parse}
+use Rattle.zim_parse_expression.specs.Next.{class_looseness, looseness, level_bound, start_at, start_of, is_right_paren, opens}
+use Rattle.zim_parse_expression.specs.Parser.{Inner, and_then, expect, flag_of, condition_in, items_of, tuple_of, index_behind, index_from, body_of, arguments, from_name, named, if_from, function_from, projection_from, from_word, primary_of, at_level, parse}
 use Rattle.zim_parse_expression.proofs.BeginningLaws.{no, is_joined}
 use Rattle.zim_parse_expression.proofs.ListLaws.{Listed, last_item, next_item, no_comma, listed_items}
 
-pub loosest : (level : Level) → bound level < 10
+pub loosest : (level : Level) → level_bound level < 10
 loosest primary = omega arith
 loosest postfix = omega arith
 loosest power = omega arith
@@ -40,9 +40,9 @@ loosest whole = omega arith
 
 -- the parser reads these tokens of a level as this tree, where they are at most as many as its depth and the level stops behind them
 pub record Complete (level : Level) (ts : List Placed) (e : Expr) : Type 0 where
-  pub reads : (n : ℕ) → length ts ≤ n → (rest : List Placed) → bound level < looseness rest → at_level (parse n) level (ts ++ rest) ≡ Some (e, rest)
+  pub reads : (n : ℕ) → length ts ≤ n → (rest : List Placed) → level_bound level < looseness rest → at_level (parse n) level (ts ++ rest) ≡ Some (e, rest)
 
-pub deeper : {level : Level} {ts : List Placed} {e : Expr} → Complete level ts e → (n : ℕ) → length ts < n → (rest : List Placed) → bound level < looseness rest →
+pub deeper : {level : Level} {ts : List Placed} {e : Expr} → Complete level ts e → (n : ℕ) → length ts < n → (rest : List Placed) → level_bound level < looseness rest →
     parse n level (ts ++ rest) ≡ Some (e, rest)
 unfolding parse and_then
 deeper c zero h rest s = absurd (omega arith)
@@ -50,7 +50,7 @@ deeper c (suc n) h rest s = c.reads n (omega arith) rest s
 
 -- the same for items with commas between them
 pub record CompleteList (level : Level) (ts : List Placed) (items : List Expr) : Type 0 where
-  pub lists : (n : ℕ) → length ts < n → (rest : List Placed) → bound level < looseness rest → Listed (parse n level) rest ts items
+  pub lists : (n : ℕ) → length ts < n → (rest : List Placed) → level_bound level < looseness rest → Listed (parse n level) rest ts items
 
 pub complete_last : {level : Level} {ts : List Placed} {e : Expr} → Complete level ts e → CompleteList level ts (e ∷ [])
 complete_last {ts = ts} d = record { lists = λ n h rest s. last_item ts (deeper d n h rest s) }
@@ -65,7 +65,7 @@ complete_more {level = level} p {ts = ts} {us = us} d l = record {
 
 -- items before a token that ends them
 pub ended : {level : Level} {ts : List Placed} {items : List Expr} → CompleteList level ts items → (n : ℕ) → length ts < n → (t : Placed) (rest : List Placed) →
-    bound level < looseness (t ∷ rest) → no_comma (t ∷ rest) → items_of (parse n level) ((ts ++ (t ∷ [])) ++ rest) ≡ Some (items, t ∷ rest)
+    level_bound level < looseness (t ∷ rest) → no_comma (t ∷ rest) → items_of (parse n level) ((ts ++ (t ∷ [])) ++ rest) ≡ Some (items, t ∷ rest)
 ended {ts = ts} l n h t rest s c = rw (append_assoc ts (t ∷ []) rest) (listed_items (l.lists n h (t ∷ rest) s) c)
 
 pub tuple_reads : {ts : List Placed} {items : List Expr} → CompleteList sum ts items → (q r : Place) (n : ℕ) → length ts < n → (rest : List Placed) →
@@ -93,7 +93,7 @@ unfolding primary_of and_then
 complete_infinity p = record { reads = λ n h rest s. refl }
 
 name_class : (inner : Inner) (p : Place) (name : List ℕ) (k : Class) (b : Bool) (t : Placed) (rest : List Placed) → 1 < class_looseness k b →
-    name_at inner p name k t rest ≡ Some (tree.Name p name, t ∷ rest)
+    from_name inner p name k t rest ≡ Some (tree.Name p name, t ∷ rest)
 name_class inner p name class.LeftBracket b t rest h = absurd (omega arith)
 name_class inner p name class.LeftParen b t rest h = absurd (omega arith)
 name_class inner p name _ b t rest h = refl
@@ -142,7 +142,7 @@ complete_call p q r name {ts = ts} b l = record {
       rw (some, arguments_read l r n (omega (arith, length-append ts (placed r (sign_token SRightParen) ∷ []), h)) rest) refl;
 }
 
-function_word : (inner : Inner) (p : Place) (w : Word) (k : Class) (rest : List Placed) → is_function k ≡ true → word_at inner p w k rest ≡ function_from inner p w rest
+function_word : (inner : Inner) (p : Place) (w : Word) (k : Class) (rest : List Placed) → is_function k ≡ true → from_word inner p w k rest ≡ function_from inner p w rest
 function_word inner p w class.Function rest h = refl
 function_word inner p w class.MinOrMax rest h = refl
 function_word inner p w _ rest h = no h
@@ -250,16 +250,16 @@ complete_if_with_else p q r s vif {ts = ts} {us = us} {vs = vs} d e f = record {
 
 -- an index, behind which neither a condition nor an operator of its set follows
 pub record CompleteIndex (ts : List Placed) (index : Index) : Type 0 where
-  pub indices : (n : ℕ) → length ts ≤ n → (rest : List Placed) → bound disjunction < looseness rest → flag_of condition_in rest ≡ None → index_from (parse n) (ts ++ rest) ≡ Some (index, rest)
+  pub indices : (n : ℕ) → length ts ≤ n → (rest : List Placed) → level_bound disjunction < looseness rest → flag_of condition_in rest ≡ None → index_from (parse n) (ts ++ rest) ≡ Some (index, rest)
 
 -- the part of an index behind its `in`
 pub behind_in : (p : Place) (tuple : Angle) {us : List Placed} {set : Expr} → Complete sum us set → (n : ℕ) → length us < n → (rest : List Placed) →
-    bound disjunction < looseness rest → flag_of condition_in rest ≡ None → index_behind (parse n) tuple p (us ++ rest) ≡ Some (index_of p tuple set None, rest)
+    level_bound disjunction < looseness rest → flag_of condition_in rest ≡ None → index_behind (parse n) tuple p (us ++ rest) ≡ Some (index_of p tuple set None, rest)
 unfolding index_behind and_then
 behind_in p tuple d n h rest s c = rw (deeper d n h rest (omega arith), c) refl
 
 pub behind_in_with : (p q : Place) (bar : Bool) (tuple : Angle) {us vs : List Placed} {set cond : Expr} → Complete sum us set → Complete disjunction vs cond →
-    (n : ℕ) → length (us ++ placed q (condition_token bar) ∷ vs) < n → (rest : List Placed) → bound disjunction < looseness rest →
+    (n : ℕ) → length (us ++ placed q (condition_token bar) ∷ vs) < n → (rest : List Placed) → level_bound disjunction < looseness rest →
     index_behind (parse n) tuple p ((us ++ placed q (condition_token bar) ∷ vs) ++ rest) ≡ Some (index_of p tuple set (Some (bar, cond)), rest)
 unfolding index_behind and_then
 behind_in_with p q true tuple {us = us} {vs = vs} d e n h rest s =

@@ -21,7 +21,7 @@ use Rattle.zim_tree.specs.Levels.{Level, primary, sum, disjunction, whole, place
 use Rattle.zim_tree.specs.Grammar.{Reads, ReadsList, ReadsTuple, ReadsIndex, ReadsBody, a_number, a_text, a_truth, an_infinity, a_name, an_item, a_bare_call, a_call, a_function, a_projection, in_parentheses, in_braces, an_if, an_if_with_else, a_tuple, an_index, an_index_with, nothing, the_members, the_tuples, the_choices, a_span, a_span_by}
 use Rattle.zim_scan.specs.Nesting.{class_at, is_left_paren}
 use Rattle.zim_parse_expression.specs.Next.{is_right_paren, is_in, is_else, is_by}
-use Rattle.zim_parse_expression.specs.Parser.{Inner, Parsed, and_then, expect, flag_of, condition_in, span_in, is_true, is_vif, items_of, tuple_of, index_end, index_behind, index_from, span_end, body_behind, body_tuple, body_at, body_of, arguments, call_end, name_at, named, if_end, if_from, function_from, projection_from, word_at, sign_at, primary_at, primary_of}
+use Rattle.zim_parse_expression.specs.Parser.{Inner, Parsed, and_then, expect, flag_of, condition_in, span_in, is_true, is_vif, items_of, tuple_of, index_end, index_behind, index_from, span_end, body_behind, body_tuple, body_at, body_of, arguments, call_end, from_name, named, if_end, if_from, function_from, projection_from, from_word, sign_at, primary_at, primary_of}
 use Rattle.zim_parse_expression.proofs.BeginningLaws.{no}
 use Rattle.zim_parse_expression.proofs.InversionLaws.{then_parts, answer, Split, Got, concluded, prefixed, appended, single, infixed, enclosed, got_left_paren, got_right_paren, got_right_bracket, got_right_brace, got_comma, got_less, got_greater, got_in, got_then, got_else, got_end, got_by, got_condition, got_span, list_of_commaed, tuples_of_commaed, Sound, more_items, got_items}
 
@@ -207,7 +207,7 @@ paren_back (word_token WIn) k e f = no (ap is_left_paren (e ∙ f))
 paren_back _ k e f = no (ap is_left_paren (e ∙ f))
 
 name_by_class : (inner : Inner) → SoundInner inner → (p : Place) (name : List ℕ) (k : Class) (t : Placed) (more : List Placed) → class_at t ≡ k → (e : Expr) (rest : List Placed) →
-    name_at inner p name k t more ≡ answer e rest → Got (Reads primary) (placed p (name_token name) ∷ (t ∷ more)) e rest
+    from_name inner p name k t more ≡ answer e rest → Got (Reads primary) (placed p (name_token name) ∷ (t ∷ more)) e rest
 name_by_class inner s p name class.LeftBracket t more c e rest h =
     let a = then_parts h in
     let b = then_parts a.gave in
@@ -327,7 +327,7 @@ instead : {token fixed : Token} (p : Place) (more : List Placed) → token ≡ f
 instead p more e = ap (λ (x : Token). placed p x ∷ more) e
 
 word_by_class : (inner : Inner) → SoundInner inner → (p : Place) (w : Word) (k : Class) → word_class w ≡ k → (more : List Placed) (e : Expr) (rest : List Placed) →
-    word_at inner p w k more ≡ answer e rest → Got (Reads primary) (placed p (word_token w) ∷ more) e rest
+    from_word inner p w k more ≡ answer e rest → Got (Reads primary) (placed p (word_token w) ∷ more) e rest
 unfolding is_truth is_infinity is_proj is_if
 word_by_class inner s p w class.Truth c more e rest h =
     concluded (Reads primary) (a_truth p (is_true w)) (single (placed p (truth_token (is_true w))) (instead p more (truth_back w (ap is_truth c)))) h

@@ -15,7 +15,7 @@ use Rattle.zim_tree.specs.Levels.{Level, primary, postfix, power, unary, product
 use Rattle.zim_tree.specs.Grammar.{Reads, a_big, no_loop_sign, a_loop_sign, a_product, a_loop, a_product_with_loop, a_member, no_not, a_not, no_forall, a_forall}
 use Rattle.zim_scan.specs.Nesting.{class_at}
 use Rattle.zim_parse_expression.specs.Next.{class_looseness, looseness, Start, a_less, start_of, opens}
-use Rattle.zim_parse_expression.specs.Parser.{Inner, and_then, flag_of, separator_in, word_in, index_from, big_of, loop_of, term_behind, term_of, sum_of, member_of, comparison_at, comparison_of, negation_at, negation_of, conjunction_of, disjunction_of, whole_at, whole_of, at_level, parse}
+use Rattle.zim_parse_expression.specs.Parser.{Inner, and_then, flag_of, separator_in, word_of_token, index_from, big_of, loop_of, term_behind, term_of, sum_of, member_of, comparison_at, comparison_of, negation_at, negation_of, conjunction_of, disjunction_of, whole_at, expression_of, at_level, parse}
 use Rattle.zim_parse_expression.proofs.BeginningLaws.{no}
 use Rattle.zim_parse_expression.proofs.InversionLaws.{then_parts, answer, Split, Got, concluded, prefixed, infixed, got_in, got_separator, Sound}
 use Rattle.zim_parse_expression.proofs.PrimarySoundLaws.{SoundInner, tuple_sound, index_sound, primary_sound}
@@ -23,14 +23,14 @@ use Rattle.zim_parse_expression.proofs.LevelSound.{postfix_sound, power_sound, u
 
 -- loops
 
-loop_back : (token : Token) → is_loop (token_class token) ≡ true → (token ≡ word_token (word_in token)) × (is_loop (word_class (word_in token)) ≡ true)
+loop_back : (token : Token) → is_loop (token_class token) ≡ true → (token ≡ word_token (word_of_token token)) × (is_loop (word_class (word_of_token token)) ≡ true)
 loop_back (word_token w) h = (refl, h)
 loop_back (sign_token SLess) h = no h
 loop_back _ h = no h
 
 big_if : (inner : Inner) → SoundInner inner → (t : Placed) (more : List Placed) (b : Bool) → (b ≡ true → is_loop (class_at t) ≡ true) → (e : Expr) (rest : List Placed) →
     (if b then and_then (index_from inner more) (λ index r1. and_then (flag_of separator_in r1) (λ with_do r2.
-    and_then (inner term r2) (λ operand left. answer (tree.Big t.place (word_in t.token) index with_do operand) left))) else None) ≡ answer e rest → Got (Reads big) (t ∷ more) e rest
+    and_then (inner term r2) (λ operand left. answer (tree.Big t.place (word_of_token t.token) index with_do operand) left))) else None) ≡ answer e rest → Got (Reads big) (t ∷ more) e rest
 big_if inner s t more true k e rest h =
     let a = then_parts h in
     let b = then_parts a.gave in
@@ -39,8 +39,8 @@ big_if inner s t more true k e rest h =
     let i = (index_sound inner s).gets more a.first a.behind a.was in
     let f = got_separator a.behind b.first b.behind b.was in
     let d = (s term).gets b.behind c.first c.behind c.was in
-    concluded (Reads big) (a_big t.place f.at (word_in t.token) b.first back.1 i.derives d.derives)
-    (prefixed (placed t.place (word_token (word_in t.token))) (ap (λ (x : Token). placed t.place x ∷ more) back.0) (infixed (placed f.at (separator_token b.first)) i.splits f.is_first d.splits)) c.gave
+    concluded (Reads big) (a_big t.place f.at (word_of_token t.token) b.first back.1 i.derives d.derives)
+    (prefixed (placed t.place (word_token (word_of_token t.token))) (ap (λ (x : Token). placed t.place x ∷ more) back.0) (infixed (placed f.at (separator_token b.first)) i.splits f.is_first d.splits)) c.gave
 big_if inner s t more false k e rest h = absurd (none-some (e, rest) h)
 
 big_by_tokens : (inner : Inner) → SoundInner inner → (ts : List Placed) (e : Expr) (rest : List Placed) → big_of inner ts ≡ answer e rest → Got (Reads big) ts e rest
@@ -174,12 +174,12 @@ whole_by_class inner s _ t more c e rest h =
     let d = (disjunction_sound inner s).gets (t ∷ more) e rest h in
     record { used = d.used; splits = d.splits; derives = no_forall d.derives }
 
-whole_by_tokens : (inner : Inner) → SoundInner inner → (ts : List Placed) (e : Expr) (rest : List Placed) → whole_of inner ts ≡ answer e rest → Got (Reads whole) ts e rest
-unfolding whole_of
+whole_by_tokens : (inner : Inner) → SoundInner inner → (ts : List Placed) (e : Expr) (rest : List Placed) → expression_of inner ts ≡ answer e rest → Got (Reads whole) ts e rest
+unfolding expression_of
 whole_by_tokens inner s [] e rest h = absurd (none-some (e, rest) h)
 whole_by_tokens inner s (t ∷ more) e rest h = whole_by_class inner s (class_at t) t more refl e rest h
 
-whole_sound : (inner : Inner) → SoundInner inner → Sound (Reads whole) (whole_of inner)
+whole_sound : (inner : Inner) → SoundInner inner → Sound (Reads whole) (expression_of inner)
 whole_sound inner s = record { gets = whole_by_tokens inner s }
 
 -- every level

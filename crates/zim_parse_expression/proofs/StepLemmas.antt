@@ -9,7 +9,7 @@ use Rattle.zim_tree.specs.declared.classes.Class.TheVariants as class
 use Rattle.zim_tree.specs.Levels.{Chain, joined, factorial, relations, whole}
 use Rattle.zim_scan.specs.Nesting.{class_at}
 use Rattle.zim_parse_expression.specs.Next.{is_exclamation, rank, is_else, is_end, opens, looseness, class_looseness, Start, a_less, start_of}
-use Rattle.zim_parse_expression.specs.Parser.{Parsed, Parser, Inner, and_then, expect, body_of, marks_of, operands_of, turns_of, named, name_at, if_end, power_of, power_at, power_behind, signed_or, sign_or, sign_before, signed_of, unary_of, postfix_of, primary_of, term_of, big_of, loop_of, term_behind, sum_of, chain_of, member_of, comparison_of, comparison_at, negation_of, negation_at, whole_of, whole_at}
+use Rattle.zim_parse_expression.specs.Parser.{Parsed, Parser, Inner, and_then, expect, body_of, marks_of, operands_of, turns_of, named, from_name, if_end, power_of, power_at, power_behind, signed_or, sign_or, sign_before, signed_of, unary_of, postfix_of, primary_of, term_of, big_of, loop_of, term_behind, sum_of, chain_of, member_of, comparison_of, comparison_at, negation_of, negation_at, expression_of, whole_at}
 use Rattle.zim_parse_expression.specs.Outcome.{class_next, is_less_start, is_not, is_forall}
 use Rattle.zim_parse_expression.specs.Steps.{body_by, otherwise, else_found, exponent_of, operator_of, loop_behind, signed_by, not_found, forall_found, forall_behind, begins_operator, sees_class, chain_behind, marks_behind}
 
@@ -24,7 +24,7 @@ named_by inner p name (Some class.LeftBracket) ts = named inner p name ts
 named_by inner p name (Some class.LeftParen) ts = named inner p name ts
 named_by inner p name _ ts = Some (tree.Name p name, ts)
 
-name_alone : (inner : Inner) (p : Place) (name : List ℕ) (c : Class) (t : Placed) (rest : List Placed) → name_at inner p name c t rest ≡ named inner p name (t ∷ rest) →
+name_alone : (inner : Inner) (p : Place) (name : List ℕ) (c : Class) (t : Placed) (rest : List Placed) → from_name inner p name c t rest ≡ named inner p name (t ∷ rest) →
     named inner p name (t ∷ rest) ≡ named_by inner p name (Some c) (t ∷ rest)
 name_alone inner p name class.LeftBracket t rest h = refl
 name_alone inner p name class.LeftParen t rest h = refl
@@ -133,8 +133,8 @@ unfolding forall_behind
 forall_at inner class.Forall t rest = refl
 forall_at inner _ t rest = refl
 
-pub whole_next : (inner : Inner) (ts : List Placed) → whole_of inner ts ≡ forall_found inner (expect is_forall ts) ts
-unfolding whole_of negation_of chain_of and_then
+pub whole_next : (inner : Inner) (ts : List Placed) → expression_of inner ts ≡ forall_found inner (expect is_forall ts) ts
+unfolding expression_of negation_of chain_of and_then
 whole_next inner [] = refl
 whole_next inner (t ∷ rest) = forall_at inner (class_at t) t rest
 

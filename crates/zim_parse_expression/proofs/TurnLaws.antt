@@ -9,7 +9,7 @@ use Rattle.zim_scan.specs.Nesting.{class_at}
 use Rattle.zim_parse_expression.specs.Next.{is_comma, is_exclamation, looseness, rank}
 use Rattle.zim_parse_expression.specs.Parser.{Parsed, Parser, and_then, expect, after_comma, items_behind, operands_of, turns_of, marks_of}
 use Rattle.zim_parse_expression.specs.Steps.{chain_behind}
-use Rattle.zim_parse_expression.specs.Turns.{Turn, turned, repeat, prepend, one, comma_found, comma_turn, mark_found, mark_turn, operand_found, operand_turn, as_operand, as_compared, as_conjunct, as_disjunct, multiplied, added, related, both, either}
+use Rattle.zim_parse_expression.specs.Turns.{Turn, turned, repeat, prepend, one_turn, comma_found, comma_turn, mark_found, mark_turn, operand_found, operand_turn, as_operand, as_compared, as_conjunct, as_disjunct, multiplied, added, comparison, both, either}
 
 -- a loop's turns
 
@@ -64,7 +64,7 @@ joined_twice first second (Some q) = refl
 
 item_taken : {A : Type 0} (item : Parser A) (n : ℕ) (first : A) → ((x : A) (ts : List Placed) → items_behind item n x ts ≡ prepend (x ∷ []) (repeat (comma_turn item) n ts)) → (r : Parsed A) →
     and_then (and_then r (λ second left. items_behind item n second left)) (λ others behind. Some (first ∷ others, behind))
-    ≡ prepend (first ∷ []) (turned (one r) (repeat (comma_turn item) n))
+    ≡ prepend (first ∷ []) (turned (one_turn r) (repeat (comma_turn item) n))
 unfolding and_then
 item_taken item n first more None = refl
 item_taken item n first more (Some y) = rw (more y.0 y.1) (joined_twice first y.0 (repeat (comma_turn item) n y.1))
@@ -147,7 +147,7 @@ same_sum : (first : Expr) (others : Operands) → joined sums first others ≡ a
 same_sum first [] = refl
 same_sum first (x ∷ others) = rw (map-id others) refl
 
-same_relation : (first : Expr) (others : Operands) → joined relations first others ≡ related first (map as_compared others)
+same_relation : (first : Expr) (others : Operands) → joined relations first others ≡ comparison first (map as_compared others)
 same_relation first [] = refl
 same_relation first (x ∷ others) = refl
 
@@ -171,9 +171,9 @@ pub sum_by_turns : (operand : Parser Expr) (first : Expr) (ts : List Placed) →
 unfolding chain_behind
 sum_by_turns operand first ts = built as_operand added sums same_sum operand (turns_of sums ts) first ts
 
-pub relation_by_turns : (operand : Parser Expr) (first : Expr) (ts : List Placed) → chain_behind relations operand first ts ≡ in_turns as_compared related relations operand first ts
+pub relation_by_turns : (operand : Parser Expr) (first : Expr) (ts : List Placed) → chain_behind relations operand first ts ≡ in_turns as_compared comparison relations operand first ts
 unfolding chain_behind
-relation_by_turns operand first ts = built as_compared related relations same_relation operand (turns_of relations ts) first ts
+relation_by_turns operand first ts = built as_compared comparison relations same_relation operand (turns_of relations ts) first ts
 
 pub conjunction_by_turns : (operand : Parser Expr) (first : Expr) (ts : List Placed) → chain_behind conjunctions operand first ts ≡ in_turns as_conjunct both conjunctions operand first ts
 unfolding chain_behind

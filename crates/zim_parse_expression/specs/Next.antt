@@ -154,18 +154,18 @@ rank conjunctions = 8
 rank disjunctions = 9
 
 -- a level goes on at an operator that binds at most as loosely
-abbrev pub bound : Level → ℕ
-bound primary = 1
-bound postfix = 2
-bound power = 3
-bound unary = 3
-bound product = 4
-bound big = 5
-bound loop = 5
-bound term = 5
-bound sum = 6
-bound comparison = 7
-bound negation = 7
-bound conjunction = 8
-bound disjunction = 9
-bound whole = 9
+abbrev pub level_bound : Level → ℕ
+level_bound primary = 1
+level_bound postfix = 2
+level_bound power = 3
+level_bound unary = 3
+level_bound product = 4
+level_bound big = 5
+level_bound loop = 5
+level_bound term = 5
+level_bound sum = 6
+level_bound comparison = 7
+level_bound negation = 7
+level_bound conjunction = 8
+level_bound disjunction = 9
+level_bound whole = 9

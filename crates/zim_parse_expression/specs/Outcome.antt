@@ -25,9 +25,9 @@ use Rattle.zim_parse_expression.specs.Parser.{Parsed, Parser, parse}
 use Rattle.zim_parse_expression.specs.StatementTokens.{is_semicolon, is_assign, is_colon, is_left_bracket, is_left_brace, is_bar, is_read, is_as, is_default, is_priority, is_startval}
 
 -- what was read and what is left, or nothing; where memory fails, nothing is said
-abbrev pub Gives : {A : Type 0} → Parsed A → Result A Failure → List Placed → Type 0
-Gives parsed (Ok a) rest = parsed ≡ Some (a, rest)
-Gives parsed (Err e) rest = e ≡ Syntax → parsed ≡ None
+abbrev pub IsParsed : {A : Type 0} → Parsed A → Result A Failure → List Placed → Type 0
+IsParsed parsed (Ok a) rest = parsed ≡ Some (a, rest)
+IsParsed parsed (Err e) rest = e ≡ Syntax → parsed ≡ None
 
 -- what was found and what is left behind it, or nothing, and then all is left
 abbrev pub Finds : {A : Type 0} → Parsed A → Option A → List Placed → List Placed → Type 0
@@ -47,15 +47,15 @@ pub record Nests (depth : ℕ) (pre : Global → MutBor (List Placed) → ℕ �
     (post : Global → MutBor (List Placed) → ℕ → Wanted → Result Expr Failure → MutBor (List Placed) → Type 0) : Type 0 where
   pub callable : (alloc : Global) (old : MutBor (List Placed)) (level : Wanted) → pre alloc old depth level
   pub gives : (alloc : Global) (old new : MutBor (List Placed)) (level : Wanted) (r : Result Expr Failure) → post alloc old depth level r new
-      → Gives (parse depth (level_wanted level) old.now) r new.now
+      → IsParsed (parse depth (level_wanted level) old.now) r new.now
 
 -- a function value that takes a turn of a list
 abbrev pub IsTurn : {A : Type 0} → (List Placed → Parsed (Option A)) → (MutBor (List Placed) → Result (Option A) Failure → MutBor (List Placed) → Type 0) → Type 0
-IsTurn {A = A} turn post = (old new : MutBor (List Placed)) (r : Result (Option A) Failure) → post old r new → Gives (turn old.now) r new.now
+IsTurn {A = A} turn post = (old new : MutBor (List Placed)) (r : Result (Option A) Failure) → post old r new → IsParsed (turn old.now) r new.now
 
 -- a function value that parses
 abbrev pub IsParser : {A : Type 0} → Parser A → (MutBor (List Placed) → Result A Failure → MutBor (List Placed) → Type 0) → Type 0
-IsParser {A = A} parser post = (old new : MutBor (List Placed)) (r : Result A Failure) → post old r new → Gives (parser old.now) r new.now
+IsParser {A = A} parser post = (old new : MutBor (List Placed)) (r : Result A Failure) → post old r new → IsParsed (parser old.now) r new.now
 
 -- the class of the next token, if there is one
 abbrev pub class_next : List Placed → Option Class

@@ -41,14 +41,14 @@ expect test [] = None
 expect test (t ∷ rest) = if test (class_at t) then Some (t.place, rest) else None
 
 -- the sign that a token is
-abbrev pub sign_in : Token → Sign
-sign_in (sign_token s) = s
-sign_in _ = SCaret
+abbrev pub sign_of_token : Token → Sign
+sign_of_token (sign_token s) = s
+sign_of_token _ = SCaret
 
 -- the word that a token is
-abbrev pub word_in : Token → Word
-word_in (word_token w) = w
-word_in _ = WSum
+abbrev pub word_of_token : Token → Word
+word_of_token (word_token w) = w
+word_of_token _ = WSum
 
 -- whether a token is `-`
 abbrev pub is_minus : Token → Bool
@@ -166,15 +166,15 @@ call_end inner p name None rest = and_then (arguments inner rest) (λ given left
 call_end inner p name (Some x) rest = Some (tree.Call p name [], x.1)
 
 -- what begins with a name
-abbrev pub name_at : Inner → Place → List ℕ → Class → Placed → List Placed → Parsed Expr
-name_at inner p name class.LeftBracket t rest = and_then (items_of (inner sum) rest) (λ index behind. and_then (expect is_right_bracket behind) (λ q left. Some (tree.Item p name index, left)))
-name_at inner p name class.LeftParen t rest = call_end inner p name (expect is_right_paren rest) rest
-name_at inner p name _ t rest = Some (tree.Name p name, t ∷ rest)
+abbrev pub from_name : Inner → Place → List ℕ → Class → Placed → List Placed → Parsed Expr
+from_name inner p name class.LeftBracket t rest = and_then (items_of (inner sum) rest) (λ index behind. and_then (expect is_right_bracket behind) (λ q left. Some (tree.Item p name index, left)))
+from_name inner p name class.LeftParen t rest = call_end inner p name (expect is_right_paren rest) rest
+from_name inner p name _ t rest = Some (tree.Name p name, t ∷ rest)
 
 -- what begins with this name
 unfoldable pub named : Inner → Place → List ℕ → Parser Expr
 named inner p name [] = Some (tree.Name p name, [])
-named inner p name (t ∷ rest) = name_at inner p name (class_at t) t rest
+named inner p name (t ∷ rest) = from_name inner p name (class_at t) t rest
 
 -- the end of an `if`
 abbrev pub if_end : Inner → Place → Bool → Expr → Expr → Parsed Place → List Placed → Parsed Expr
@@ -197,14 +197,14 @@ projection_from inner p ts = and_then (expect is_left_paren ts) (λ q r1. and_th
     and_then (tuple_of inner r3) (λ positions r4. and_then (expect is_right_paren r4) (λ t left. Some (tree.Proj p set positions, left))))))
 
 -- what begins with a word
-abbrev pub word_at : Inner → Place → Word → Class → Parser Expr
-word_at inner p before class.Truth rest = Some (tree.Truth p (is_true before), rest)
-word_at inner p before class.Infinity rest = Some (tree.Infinity p, rest)
-word_at inner p before class.Function rest = function_from inner p before rest
-word_at inner p before class.MinOrMax rest = function_from inner p before rest
-word_at inner p before class.Proj rest = projection_from inner p rest
-word_at inner p before class.IfOrVif rest = if_from inner p (is_vif before) rest
-word_at inner p before _ rest = None
+abbrev pub from_word : Inner → Place → Word → Class → Parser Expr
+from_word inner p before class.Truth rest = Some (tree.Truth p (is_true before), rest)
+from_word inner p before class.Infinity rest = Some (tree.Infinity p, rest)
+from_word inner p before class.Function rest = function_from inner p before rest
+from_word inner p before class.MinOrMax rest = function_from inner p before rest
+from_word inner p before class.Proj rest = projection_from inner p rest
+from_word inner p before class.IfOrVif rest = if_from inner p (is_vif before) rest
+from_word inner p before _ rest = None
 
 -- what begins with a sign
 abbrev pub sign_at : Inner → Place → Class → Parser Expr
@@ -217,7 +217,7 @@ abbrev pub primary_at : Inner → Place → Token → Parser Expr
 primary_at inner p (number_token digits) rest = Some (tree.Number p digits, rest)
 primary_at inner p (text_token text double) rest = Some (tree.Text p text double, rest)
 primary_at inner p (name_token name) rest = named inner p name rest
-primary_at inner p (word_token word) rest = word_at inner p word (word_class word) rest
+primary_at inner p (word_token word) rest = from_word inner p word (word_class word) rest
 primary_at inner p (sign_token sign) rest = sign_at inner p (sign_class sign) rest
 
 -- a primary
@@ -247,7 +247,7 @@ signed_of (t ∷ rest) = sign_before (class_at t) t rest
 -- an exponent behind its operator
 abbrev pub power_at : Inner → Expr → Class → Placed → List Placed → Parsed Expr
 power_at inner base class.Power t rest = and_then (postfix_of inner (signed_of rest).1) (λ exponent left.
-    Some (tree.Power t.place (sign_in t.token) base (signed_of rest).0 exponent, left))
+    Some (tree.Power t.place (sign_of_token t.token) base (signed_of rest).0 exponent, left))
 power_at inner base _ t rest = Some (base, t ∷ rest)
 
 -- a power behind its base
@@ -292,15 +292,15 @@ chain_of chain operand ts = and_then (operand ts) (λ first rest.
     and_then (operands_of chain operand (turns_of chain rest) rest) (λ others left. Some (joined chain first others, left)))
 
 -- a product
-abbrev pub product_of : Inner → Parser Expr
-product_of inner = chain_of products (unary_of inner)
+abbrev pub products_of : Inner → Parser Expr
+products_of inner = chain_of products (unary_of inner)
 
 -- a loop without a sign
 unfoldable pub big_of : Inner → Parser Expr
 big_of inner [] = None
 big_of inner (t ∷ rest) = if is_loop (class_at t)
     then and_then (index_from inner rest) (λ index r1. and_then (flag_of separator_in r1) (λ with_do r2.
-    and_then (inner term r2) (λ operand left. Some (tree.Big t.place (word_in t.token) index with_do operand, left))))
+    and_then (inner term r2) (λ operand left. Some (tree.Big t.place (word_of_token t.token) index with_do operand, left))))
     else None
 
 -- a loop with or without a sign
@@ -316,7 +316,7 @@ term_behind inner first (t ∷ rest) = if nat_eq (looseness (t ∷ rest)) 5
 
 -- an operand of a sum
 unfoldable pub term_of : Inner → Parser Expr
-term_of inner ts = if opens ts then loop_of inner ts else and_then (product_of inner ts) (λ first rest. term_behind inner first rest)
+term_of inner ts = if opens ts then loop_of inner ts else and_then (products_of inner ts) (λ first rest. term_behind inner first rest)
 
 -- a sum
 abbrev pub sum_of : Inner → Parser Expr
@@ -361,9 +361,9 @@ whole_at inner class.Forall t rest = and_then (index_from inner rest) (λ index 
 whole_at inner _ t rest = disjunction_of inner (t ∷ rest)
 
 -- an expression of any kind
-unfoldable pub whole_of : Inner → Parser Expr
-whole_of inner [] = None
-whole_of inner (t ∷ rest) = whole_at inner (class_at t) t rest
+unfoldable pub expression_of : Inner → Parser Expr
+expression_of inner [] = None
+expression_of inner (t ∷ rest) = whole_at inner (class_at t) t rest
 
 -- an expression of this level, with a parser for what stands deeper
 abbrev pub at_level : Inner → Level → Parser Expr
@@ -371,7 +371,7 @@ at_level inner primary = primary_of inner
 at_level inner postfix = postfix_of inner
 at_level inner power = power_of inner
 at_level inner unary = unary_of inner
-at_level inner product = product_of inner
+at_level inner product = products_of inner
 at_level inner big = big_of inner
 at_level inner loop = loop_of inner
 at_level inner term = term_of inner
@@ -380,7 +380,7 @@ at_level inner comparison = comparison_of inner
 at_level inner negation = negation_of inner
 at_level inner conjunction = conjunction_of inner
 at_level inner disjunction = disjunction_of inner
-at_level inner whole = whole_of inner
+at_level inner whole = expression_of inner
 
 -- an expression of this level, at most so many levels deep
 unfoldable pub parse : ℕ → Inner

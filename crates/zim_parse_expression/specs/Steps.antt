@@ -10,7 +10,7 @@ use Rattle.zim_tree.specs.declared.classes.Class.{Class}
 use Rattle.zim_tree.specs.Levels.{term, sum, whole, Chain, joined, factorial}
 use Rattle.zim_scan.specs.Nesting.{class_at}
 use Rattle.zim_parse_expression.specs.Next.{is_right_paren, is_right_bracket, is_in, is_else, is_end, is_by, looseness}
-use Rattle.zim_parse_expression.specs.Parser.{Parsed, Parser, Inner, and_then, expect, flag_of, separator_in, span_in, sign_in, items_of, tuple_of, index_from, span_end, body_behind, body_tuple, body_at, call_end, postfix_of, marks_of, operands_of, turns_of, signed_of, loop_of, comparison_of, disjunction_of}
+use Rattle.zim_parse_expression.specs.Parser.{Parsed, Parser, Inner, and_then, expect, flag_of, separator_in, span_in, sign_of_token, items_of, tuple_of, index_from, span_end, body_behind, body_tuple, body_at, call_end, postfix_of, marks_of, operands_of, turns_of, signed_of, loop_of, comparison_of, disjunction_of}
 
 -- a span behind its `..` or `to`
 unfoldable pub span_behind : Inner → Expr → Bool → Parser Body
@@ -49,7 +49,7 @@ otherwise inner ts = else_found inner (expect is_else ts) ts
 -- a power behind its operator
 unfoldable pub exponent_of : Inner → Expr → Placed → Parser Expr
 exponent_of inner base t ts = and_then (postfix_of inner (signed_of ts).1) (λ exponent left.
-    Some (tree.Power t.place (sign_in t.token) base (signed_of ts).0 exponent, left))
+    Some (tree.Power t.place (sign_of_token t.token) base (signed_of ts).0 exponent, left))
 
 -- the next token, if it is an operator that binds so loosely, and what is left behind it
 abbrev pub operator_of : ℕ → List Placed → Option (Placed × List Placed)

@@ -31,13 +31,13 @@ abbrev pub prepend : {A : Type 0} → List A → Parsed (List A) → Parsed (Lis
 prepend items p = and_then p (λ others left. Some (items ++ others, left))
 
 -- an item of which a turn is made
-abbrev pub one : {A : Type 0} → Parsed A → Parsed (Option A)
-one p = and_then p (λ x left. Some (Some x, left))
+abbrev pub one_turn : {A : Type 0} → Parsed A → Parsed (Option A)
+one_turn p = and_then p (λ x left. Some (Some x, left))
 
 -- an item behind a comma that was found or not
 abbrev pub comma_found : {A : Type 0} → Parser A → Parsed Place → List Placed → Parsed (Option A)
 comma_found item None ts = Some (None, ts)
-comma_found item (Some x) ts = one (item x.1)
+comma_found item (Some x) ts = one_turn (item x.1)
 
 -- one more item behind a comma
 unfoldable pub comma_turn : {A : Type 0} → Parser A → Turn A
@@ -88,9 +88,9 @@ added first [] = first
 added first (x ∷ others) = tree.Plus first (x ∷ others)
 
 -- a comparison, likewise
-abbrev pub related : Expr → List (Place × Relation × Expr) → Expr
-related first [] = first
-related first (x ∷ others) = tree.Compare first (x ∷ others)
+abbrev pub comparison : Expr → List (Place × Relation × Expr) → Expr
+comparison first [] = first
+comparison first (x ∷ others) = tree.Compare first (x ∷ others)
 
 -- a conjunction, likewise
 abbrev pub both : Expr → List (Place × Expr) → Expr

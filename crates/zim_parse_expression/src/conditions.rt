@@ -3,7 +3,7 @@
 ghost use Rattle.std.specs.Prelude.{◌≡◌, length};
 ghost use Rattle.zim_tree.specs.Levels as level;
 ghost use Rattle.zim_tree.specs.Levels.{relations, conjunctions, disjunctions};
-ghost use Rattle.zim_parse_expression.specs.Outcome.{Gives, Nests};
+ghost use Rattle.zim_parse_expression.specs.Outcome.{IsParsed, Nests};
 ghost use Rattle.zim_parse_expression.specs.Parser as spec;
 ghost use Rattle.zim_parse_expression.specs.Parser.{parse};
 ghost use Rattle.zim_parse_expression.specs.Steps as steps;
@@ -44,7 +44,7 @@ fn is_xor(token: &Token) -> bool
 
 /// A comparison, unless the first operand stands alone.
 fn related(first: Boxed<Expr>, others: Items<(Place, Relation, Expr)>) -> Expr
-    ensures { result ≡ turns.related first others }
+    ensures { result ≡ turns.comparison first others }
 {
     if others.len() == 0 {
         return first.into_inner();
@@ -80,7 +80,7 @@ impl<F: Fn(Global, &mut Tokens<'_>, usize, Wanted) -> Result<Expr, Failure>> Gra
         tokens: &mut Tokens<'_>,
     ) -> Result<Option<(Place, Relation, Expr)>, Failure>
         requires { Nests self.now.depth (F.pre self.now.inner) (F.post self.now.inner) }
-        ensures { Gives (operand_turn turns.as_compared relations (spec.sum_of (parse self.now.depth)) tokens.old) result tokens.new }
+        ensures { IsParsed (operand_turn turns.as_compared relations (spec.sum_of (parse self.now.depth)) tokens.old) result tokens.new }
     {
         let Some(operator) = tokens.operator(RELATION) else {
             return Ok(None);
@@ -92,7 +92,7 @@ impl<F: Fn(Global, &mut Tokens<'_>, usize, Wanted) -> Result<Expr, Failure>> Gra
     /// The relations that come next, at most two, each with its operand.
     fn compared(&self, tokens: &mut Tokens<'_>) -> Result<Items<(Place, Relation, Expr)>, Failure>
         requires { Nests self.now.depth (F.pre self.now.inner) (F.post self.now.inner) }
-        ensures { Gives (repeat (operand_turn turns.as_compared relations (spec.sum_of (parse self.now.depth))) 2 tokens.old) result tokens.new }
+        ensures { IsParsed (repeat (operand_turn turns.as_compared relations (spec.sum_of (parse self.now.depth))) 2 tokens.old) result tokens.new }
     {
         repeat(self.alloc, tokens, 2, |left| self.next_compared(left))
     }
@@ -101,7 +101,7 @@ impl<F: Fn(Global, &mut Tokens<'_>, usize, Wanted) -> Result<Expr, Failure>> Gra
     #[tactic(auto, unfolding(crate::specs::Parser::member_of, crate::specs::Parser::and_then))]
     fn member(&self, tokens: &mut Tokens<'_>) -> Result<Expr, Failure>
         requires { Nests self.now.depth (F.pre self.now.inner) (F.post self.now.inner) }
-        ensures { Gives (spec.member_of (parse self.now.depth) tokens.old) result tokens.new }
+        ensures { IsParsed (spec.member_of (parse self.now.depth) tokens.old) result tokens.new }
     {
         let tuple = self.tuple(tokens)?;
         let place = tokens.expect(Terminal::In)?;
@@ -113,7 +113,7 @@ impl<F: Fn(Global, &mut Tokens<'_>, usize, Wanted) -> Result<Expr, Failure>> Gra
     #[tactic(auto, using(crate::proofs::TurnLaws::relation_by_turns), unfolding(crate::specs::Parser::and_then))]
     fn relation_behind(&self, tokens: &mut Tokens<'_>, first: Boxed<Expr>) -> Result<Expr, Failure>
         requires { Nests self.now.depth (F.pre self.now.inner) (F.post self.now.inner) }
-        ensures { Gives (steps.chain_behind relations (spec.sum_of (parse self.now.depth)) first tokens.old) result tokens.new }
+        ensures { IsParsed (steps.chain_behind relations (spec.sum_of (parse self.now.depth)) first tokens.old) result tokens.new }
     {
         let others = self.compared(tokens)?;
         Ok(related(first, others))
@@ -123,7 +123,7 @@ impl<F: Fn(Global, &mut Tokens<'_>, usize, Wanted) -> Result<Expr, Failure>> Gra
     #[tactic(auto, using(crate::proofs::StepLemmas::chain_next), unfolding(crate::specs::Parser::and_then))]
     fn relation(&self, tokens: &mut Tokens<'_>) -> Result<Expr, Failure>
         requires { Nests self.now.depth (F.pre self.now.inner) (F.post self.now.inner) }
-        ensures { Gives (spec.chain_of relations (spec.sum_of (parse self.now.depth)) tokens.old) result tokens.new }
+        ensures { IsParsed (spec.chain_of relations (spec.sum_of (parse self.now.depth)) tokens.old) result tokens.new }
     {
         let first = self.sum(tokens)?;
         if tokens.begins_operator(RELATION) {
@@ -136,7 +136,7 @@ impl<F: Fn(Global, &mut Tokens<'_>, usize, Wanted) -> Result<Expr, Failure>> Gra
     #[tactic(auto, using(crate::proofs::StepLemmas::comparison_next), unfolding(crate::specs::Parser::and_then))]
     fn comparison(&self, tokens: &mut Tokens<'_>) -> Result<Expr, Failure>
         requires { Nests self.now.depth (F.pre self.now.inner) (F.post self.now.inner) }
-        ensures { Gives (spec.comparison_of (parse self.now.depth) tokens.old) result tokens.new }
+        ensures { IsParsed (spec.comparison_of (parse self.now.depth) tokens.old) result tokens.new }
     {
         if tokens.begins_less() {
             self.member(tokens)
@@ -149,7 +149,7 @@ impl<F: Fn(Global, &mut Tokens<'_>, usize, Wanted) -> Result<Expr, Failure>> Gra
     #[tactic(auto, using(crate::proofs::StepLemmas::negation_next), unfolding(crate::specs::Parser::and_then))]
     fn negation(&self, tokens: &mut Tokens<'_>) -> Result<Expr, Failure>
         requires { Nests self.now.depth (F.pre self.now.inner) (F.post self.now.inner) }
-        ensures { Gives (spec.negation_of (parse self.now.depth) tokens.old) result tokens.new }
+        ensures { IsParsed (spec.negation_of (parse self.now.depth) tokens.old) result tokens.new }
     {
         match tokens.eat(Terminal::Not) {
             None => self.comparison(tokens),
@@ -164,7 +164,7 @@ impl<F: Fn(Global, &mut Tokens<'_>, usize, Wanted) -> Result<Expr, Failure>> Gra
     #[tactic(auto, unfolding(crate::specs::Turns::operand_turn, crate::specs::Parser::and_then))]
     fn next_conjunct(&self, tokens: &mut Tokens<'_>) -> Result<Option<(Place, Expr)>, Failure>
         requires { Nests self.now.depth (F.pre self.now.inner) (F.post self.now.inner) }
-        ensures { Gives (operand_turn turns.as_conjunct conjunctions (spec.negation_of (parse self.now.depth)) tokens.old) result tokens.new }
+        ensures { IsParsed (operand_turn turns.as_conjunct conjunctions (spec.negation_of (parse self.now.depth)) tokens.old) result tokens.new }
     {
         let Some(operator) = tokens.operator(CONJUNCTION) else {
             return Ok(None);
@@ -176,7 +176,7 @@ impl<F: Fn(Global, &mut Tokens<'_>, usize, Wanted) -> Result<Expr, Failure>> Gra
     /// Each `and` that comes next, with its operand.
     fn conjuncts(&self, tokens: &mut Tokens<'_>) -> Result<Items<(Place, Expr)>, Failure>
         requires { Nests self.now.depth (F.pre self.now.inner) (F.post self.now.inner) }
-        ensures { Gives (repeat (operand_turn turns.as_conjunct conjunctions (spec.negation_of (parse self.now.depth))) (length tokens.old) tokens.old) result tokens.new }
+        ensures { IsParsed (repeat (operand_turn turns.as_conjunct conjunctions (spec.negation_of (parse self.now.depth))) (length tokens.old) tokens.old) result tokens.new }
     {
         repeat(
             self.alloc,
@@ -194,7 +194,7 @@ impl<F: Fn(Global, &mut Tokens<'_>, usize, Wanted) -> Result<Expr, Failure>> Gra
         first: Boxed<Expr>,
     ) -> Result<Expr, Failure>
         requires { Nests self.now.depth (F.pre self.now.inner) (F.post self.now.inner) }
-        ensures { Gives (steps.chain_behind conjunctions (spec.negation_of (parse self.now.depth)) first tokens.old) result tokens.new }
+        ensures { IsParsed (steps.chain_behind conjunctions (spec.negation_of (parse self.now.depth)) first tokens.old) result tokens.new }
     {
         let others = self.conjuncts(tokens)?;
         Ok(both(first, others))
@@ -204,7 +204,7 @@ impl<F: Fn(Global, &mut Tokens<'_>, usize, Wanted) -> Result<Expr, Failure>> Gra
     #[tactic(auto, using(crate::proofs::StepLemmas::chain_next), unfolding(crate::specs::Parser::and_then))]
     fn conjunction(&self, tokens: &mut Tokens<'_>) -> Result<Expr, Failure>
         requires { Nests self.now.depth (F.pre self.now.inner) (F.post self.now.inner) }
-        ensures { Gives (spec.conjunction_of (parse self.now.depth) tokens.old) result tokens.new }
+        ensures { IsParsed (spec.conjunction_of (parse self.now.depth) tokens.old) result tokens.new }
     {
         let first = self.negation(tokens)?;
         if tokens.begins_operator(CONJUNCTION) {
@@ -217,7 +217,7 @@ impl<F: Fn(Global, &mut Tokens<'_>, usize, Wanted) -> Result<Expr, Failure>> Gra
     #[tactic(auto, unfolding(crate::specs::Turns::operand_turn, crate::specs::Parser::and_then))]
     fn next_disjunct(&self, tokens: &mut Tokens<'_>) -> Result<Option<(Place, bool, Expr)>, Failure>
         requires { Nests self.now.depth (F.pre self.now.inner) (F.post self.now.inner) }
-        ensures { Gives (operand_turn turns.as_disjunct disjunctions (spec.conjunction_of (parse self.now.depth)) tokens.old) result tokens.new }
+        ensures { IsParsed (operand_turn turns.as_disjunct disjunctions (spec.conjunction_of (parse self.now.depth)) tokens.old) result tokens.new }
     {
         let Some(operator) = tokens.operator(DISJUNCTION) else {
             return Ok(None);
@@ -229,7 +229,7 @@ impl<F: Fn(Global, &mut Tokens<'_>, usize, Wanted) -> Result<Expr, Failure>> Gra
     /// Each `or` and `xor` that comes next, with its operand.
     fn disjuncts(&self, tokens: &mut Tokens<'_>) -> Result<Items<(Place, bool, Expr)>, Failure>
         requires { Nests self.now.depth (F.pre self.now.inner) (F.post self.now.inner) }
-        ensures { Gives (repeat (operand_turn turns.as_disjunct disjunctions (spec.conjunction_of (parse self.now.depth))) (length tokens.old) tokens.old) result tokens.new }
+        ensures { IsParsed (repeat (operand_turn turns.as_disjunct disjunctions (spec.conjunction_of (parse self.now.depth))) (length tokens.old) tokens.old) result tokens.new }
     {
         repeat(
             self.alloc,
@@ -247,7 +247,7 @@ impl<F: Fn(Global, &mut Tokens<'_>, usize, Wanted) -> Result<Expr, Failure>> Gra
         first: Boxed<Expr>,
     ) -> Result<Expr, Failure>
         requires { Nests self.now.depth (F.pre self.now.inner) (F.post self.now.inner) }
-        ensures { Gives (steps.chain_behind disjunctions (spec.conjunction_of (parse self.now.depth)) first tokens.old) result tokens.new }
+        ensures { IsParsed (steps.chain_behind disjunctions (spec.conjunction_of (parse self.now.depth)) first tokens.old) result tokens.new }
     {
         let others = self.disjuncts(tokens)?;
         Ok(either(first, others))
@@ -257,7 +257,7 @@ impl<F: Fn(Global, &mut Tokens<'_>, usize, Wanted) -> Result<Expr, Failure>> Gra
     #[tactic(auto, using(crate::proofs::StepLemmas::chain_next), unfolding(crate::specs::Parser::and_then))]
     pub fn disjunction(&self, tokens: &mut Tokens<'_>) -> Result<Expr, Failure>
         requires { Nests self.now.depth (F.pre self.now.inner) (F.post self.now.inner) }
-        ensures { Gives (spec.disjunction_of (parse self.now.depth) tokens.old) result tokens.new }
+        ensures { IsParsed (spec.disjunction_of (parse self.now.depth) tokens.old) result tokens.new }
     {
         let first = self.conjunction(tokens)?;
         if tokens.begins_operator(DISJUNCTION) {

@@ -1,6 +1,6 @@
 //! The rules take the parser of what stands deeper as a parameter, so that each is proved by itself.
 
-ghost use Rattle.zim_parse_expression.specs.Outcome.{Gives, Nests, level_wanted};
+ghost use Rattle.zim_parse_expression.specs.Outcome.{IsParsed, Nests, level_wanted};
 ghost use Rattle.zim_parse_expression.specs.Parser.{parse, at_level};
 
 use crate::failure::Failure;
@@ -31,7 +31,7 @@ impl<F: Fn(Global, &mut Tokens<'_>, usize, Wanted) -> Result<Expr, Failure>> Gra
     /// An expression of a level that stands deeper.
     pub fn inner(&self, tokens: &mut Tokens<'_>, level: Wanted) -> Result<Expr, Failure>
         requires { Nests self.now.depth (F.pre self.now.inner) (F.post self.now.inner) }
-        ensures { Gives (parse self.now.depth (level_wanted level) tokens.old) result tokens.new }
+        ensures { IsParsed (parse self.now.depth (level_wanted level) tokens.old) result tokens.new }
     {
         (self.inner)(self.alloc, tokens, self.depth, level)
     }
@@ -43,7 +43,7 @@ impl<F: Fn(Global, &mut Tokens<'_>, usize, Wanted) -> Result<Expr, Failure>> Gra
         level: Wanted,
     ) -> Result<Boxed<Expr>, Failure>
         requires { Nests self.now.depth (F.pre self.now.inner) (F.post self.now.inner) }
-        ensures { Gives (parse self.now.depth (level_wanted level) tokens.old) result tokens.new }
+        ensures { IsParsed (parse self.now.depth (level_wanted level) tokens.old) result tokens.new }
     {
         Ok(Boxed::new(self.alloc, self.inner(tokens, level)?)?)
     }

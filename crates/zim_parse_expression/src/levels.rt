@@ -1,6 +1,6 @@
 //! Expressions of every level.
 
-ghost use Rattle.zim_parse_expression.specs.Outcome.{Gives, Nests, level_wanted};
+ghost use Rattle.zim_parse_expression.specs.Outcome.{IsParsed, Nests, level_wanted};
 ghost use Rattle.zim_parse_expression.specs.Parser as spec;
 ghost use Rattle.zim_parse_expression.specs.Parser.{parse};
 ghost use Rattle.zim_parse_expression.specs.Steps as steps;
@@ -19,7 +19,7 @@ impl<F: Fn(Global, &mut Tokens<'_>, usize, Wanted) -> Result<Expr, Failure>> Gra
     #[tactic(auto, unfolding(crate::specs::Steps::forall_behind, crate::specs::Parser::and_then))]
     fn forall(&self, tokens: &mut Tokens<'_>, place: Place) -> Result<Expr, Failure>
         requires { Nests self.now.depth (F.pre self.now.inner) (F.post self.now.inner) }
-        ensures { Gives (steps.forall_behind (parse self.now.depth) place tokens.old) result tokens.new }
+        ensures { IsParsed (steps.forall_behind (parse self.now.depth) place tokens.old) result tokens.new }
     {
         let index = self.index(tokens)?;
         let with_do = tokens.separator()?;
@@ -31,7 +31,7 @@ impl<F: Fn(Global, &mut Tokens<'_>, usize, Wanted) -> Result<Expr, Failure>> Gra
     #[tactic(auto, using(crate::proofs::StepLemmas::whole_next), unfolding(crate::specs::Parser::and_then))]
     fn whole(&self, tokens: &mut Tokens<'_>) -> Result<Expr, Failure>
         requires { Nests self.now.depth (F.pre self.now.inner) (F.post self.now.inner) }
-        ensures { Gives (spec.whole_of (parse self.now.depth) tokens.old) result tokens.new }
+        ensures { IsParsed (spec.expression_of (parse self.now.depth) tokens.old) result tokens.new }
     {
         match tokens.eat(Terminal::Forall) {
             None => self.disjunction(tokens),
@@ -42,7 +42,7 @@ impl<F: Fn(Global, &mut Tokens<'_>, usize, Wanted) -> Result<Expr, Failure>> Gra
     /// An expression of this level.
     pub fn level(&self, tokens: &mut Tokens<'_>, level: Wanted) -> Result<Expr, Failure>
         requires { Nests self.now.depth (F.pre self.now.inner) (F.post self.now.inner) }
-        ensures { Gives (spec.at_level (parse self.now.depth) (level_wanted level) tokens.old) result tokens.new }
+        ensures { IsParsed (spec.at_level (parse self.now.depth) (level_wanted level) tokens.old) result tokens.new }
     {
         match level {
             Wanted::Unary => self.unary(tokens),
@@ -61,7 +61,7 @@ pub fn expression(
     depth: usize,
     level: Wanted,
 ) -> Result<Expr, Failure>
-    ensures { Gives (parse depth (level_wanted level) tokens.old) result tokens.new }
+    ensures { IsParsed (parse depth (level_wanted level) tokens.old) result tokens.new }
 {
     if depth == 0 {
         return Err(Failure::Syntax);
@@ -81,7 +81,7 @@ pub fn expressions(
     depth: usize,
     level: Wanted,
 ) -> Result<Items<Expr>, Failure>
-    ensures { Gives (spec.items_of (parse depth (level_wanted level)) tokens.old) result tokens.new }
+    ensures { IsParsed (spec.items_of (parse depth (level_wanted level)) tokens.old) result tokens.new }
 {
     let grammar = Grammar {
         alloc,
@@ -97,7 +97,7 @@ pub fn arguments(
     tokens: &mut Tokens<'_>,
     depth: usize,
 ) -> Result<Items<Expr>, Failure>
-    ensures { Gives (spec.arguments (parse depth) tokens.old) result tokens.new }
+    ensures { IsParsed (spec.arguments (parse depth) tokens.old) result tokens.new }
 {
     let grammar = Grammar {
         alloc,
@@ -109,7 +109,7 @@ pub fn arguments(
 
 /// `<a, b>`, at most so many levels deep.
 pub fn tuple(alloc: Global, tokens: &mut Tokens<'_>, depth: usize) -> Result<Angle, Failure>
-    ensures { Gives (spec.tuple_of (parse depth) tokens.old) result tokens.new }
+    ensures { IsParsed (spec.tuple_of (parse depth) tokens.old) result tokens.new }
 {
     let grammar = Grammar {
         alloc,
@@ -121,7 +121,7 @@ pub fn tuple(alloc: Global, tokens: &mut Tokens<'_>, depth: usize) -> Result<Ang
 
 /// `<i, j> in set with condition`, at most so many levels deep.
 pub fn index(alloc: Global, tokens: &mut Tokens<'_>, depth: usize) -> Result<Boxed<Index>, Failure>
-    ensures { Gives (spec.index_from (parse depth) tokens.old) result tokens.new }
+    ensures { IsParsed (spec.index_from (parse depth) tokens.old) result tokens.new }
 {
     let grammar = Grammar {
         alloc,

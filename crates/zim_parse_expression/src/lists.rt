@@ -1,7 +1,7 @@
 //! Lists with commas, tuples and indices.
 
 ghost use Rattle.std.specs.Prelude.{length};
-ghost use Rattle.zim_parse_expression.specs.Outcome.{Gives, Nests, level_wanted};
+ghost use Rattle.zim_parse_expression.specs.Outcome.{IsParsed, Nests, level_wanted};
 ghost use Rattle.zim_parse_expression.specs.Parser as spec;
 ghost use Rattle.zim_parse_expression.specs.Parser.{parse};
 
@@ -24,7 +24,7 @@ impl<F: Fn(Global, &mut Tokens<'_>, usize, Wanted) -> Result<Expr, Failure>> Gra
         first: Expr,
     ) -> Result<Items<Expr>, Failure>
         requires { Nests self.now.depth (F.pre self.now.inner) (F.post self.now.inner) }
-        ensures { Gives (spec.items_behind (parse self.now.depth (level_wanted level)) (length tokens.old) first tokens.old) result tokens.new }
+        ensures { IsParsed (spec.items_behind (parse self.now.depth (level_wanted level)) (length tokens.old) first tokens.old) result tokens.new }
     {
         items_behind(self.alloc, tokens, first, |left| self.inner(left, level))
     }
@@ -32,7 +32,7 @@ impl<F: Fn(Global, &mut Tokens<'_>, usize, Wanted) -> Result<Expr, Failure>> Gra
     /// One or more expressions with commas between them.
     pub fn exprs(&self, tokens: &mut Tokens<'_>, level: Wanted) -> Result<Items<Expr>, Failure>
         requires { Nests self.now.depth (F.pre self.now.inner) (F.post self.now.inner) }
-        ensures { Gives (spec.items_of (parse self.now.depth (level_wanted level)) tokens.old) result tokens.new }
+        ensures { IsParsed (spec.items_of (parse self.now.depth (level_wanted level)) tokens.old) result tokens.new }
     {
         items_of(self.alloc, tokens, |left| self.inner(left, level))
     }
@@ -41,7 +41,7 @@ impl<F: Fn(Global, &mut Tokens<'_>, usize, Wanted) -> Result<Expr, Failure>> Gra
     #[tactic(auto, unfolding(crate::specs::Parser::arguments, crate::specs::Parser::and_then))]
     pub fn arguments(&self, tokens: &mut Tokens<'_>) -> Result<Items<Expr>, Failure>
         requires { Nests self.now.depth (F.pre self.now.inner) (F.post self.now.inner) }
-        ensures { Gives (spec.arguments (parse self.now.depth) tokens.old) result tokens.new }
+        ensures { IsParsed (spec.arguments (parse self.now.depth) tokens.old) result tokens.new }
     {
         let given = self.exprs(tokens, Wanted::Disjunction)?;
         tokens.expect(Terminal::RightParen)?;
@@ -52,7 +52,7 @@ impl<F: Fn(Global, &mut Tokens<'_>, usize, Wanted) -> Result<Expr, Failure>> Gra
     #[tactic(auto, unfolding(crate::specs::Parser::tuple_of, crate::specs::Parser::and_then))]
     pub fn tuple(&self, tokens: &mut Tokens<'_>) -> Result<Angle, Failure>
         requires { Nests self.now.depth (F.pre self.now.inner) (F.post self.now.inner) }
-        ensures { Gives (spec.tuple_of (parse self.now.depth) tokens.old) result tokens.new }
+        ensures { IsParsed (spec.tuple_of (parse self.now.depth) tokens.old) result tokens.new }
     {
         let place = tokens.expect(Terminal::Less)?;
         let items = self.exprs(tokens, Wanted::Sum)?;
@@ -67,7 +67,7 @@ impl<F: Fn(Global, &mut Tokens<'_>, usize, Wanted) -> Result<Expr, Failure>> Gra
         first: Angle,
     ) -> Result<Items<Angle>, Failure>
         requires { Nests self.now.depth (F.pre self.now.inner) (F.post self.now.inner) }
-        ensures { Gives (spec.items_behind (spec.tuple_of (parse self.now.depth)) (length tokens.old) first tokens.old) result tokens.new }
+        ensures { IsParsed (spec.items_behind (spec.tuple_of (parse self.now.depth)) (length tokens.old) first tokens.old) result tokens.new }
     {
         items_behind(self.alloc, tokens, first, |left| self.tuple(left))
     }
@@ -81,7 +81,7 @@ impl<F: Fn(Global, &mut Tokens<'_>, usize, Wanted) -> Result<Expr, Failure>> Gra
         place: Place,
     ) -> Result<Index, Failure>
         requires { Nests self.now.depth (F.pre self.now.inner) (F.post self.now.inner) }
-        ensures { Gives (spec.index_behind (parse self.now.depth) tuple place tokens.old) result tokens.new }
+        ensures { IsParsed (spec.index_behind (parse self.now.depth) tuple place tokens.old) result tokens.new }
     {
         let set = self.inner_boxed(tokens, Wanted::Sum)?;
         match tokens.eat_condition() {
@@ -107,7 +107,7 @@ impl<F: Fn(Global, &mut Tokens<'_>, usize, Wanted) -> Result<Expr, Failure>> Gra
     #[tactic(auto, unfolding(crate::specs::Parser::index_from, crate::specs::Parser::and_then))]
     pub fn index(&self, tokens: &mut Tokens<'_>) -> Result<Boxed<Index>, Failure>
         requires { Nests self.now.depth (F.pre self.now.inner) (F.post self.now.inner) }
-        ensures { Gives (spec.index_from (parse self.now.depth) tokens.old) result tokens.new }
+        ensures { IsParsed (spec.index_from (parse self.now.depth) tokens.old) result tokens.new }
     {
         let tuple = self.tuple(tokens)?;
         let place = tokens.expect(Terminal::In)?;

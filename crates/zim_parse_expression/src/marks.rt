@@ -1,7 +1,7 @@
 //! Factorials.
 
 ghost use Rattle.std.specs.Prelude.{length};
-ghost use Rattle.zim_parse_expression.specs.Outcome.{Gives};
+ghost use Rattle.zim_parse_expression.specs.Outcome.{IsParsed};
 ghost use Rattle.zim_parse_expression.specs.Turns.{mark_turn, repeat};
 
 use crate::failure::Failure;
@@ -15,7 +15,7 @@ use zim_fault::Place;
 /// The next `!`, for its place, if one comes next.
 #[tactic(auto, unfolding(crate::specs::Turns::mark_turn))]
 fn next_mark(tokens: &mut Tokens<'_>) -> Result<Option<Place>, Failure>
-    ensures { Gives (mark_turn tokens.old) result tokens.new }
+    ensures { IsParsed (mark_turn tokens.old) result tokens.new }
 {
     let Some(place) = tokens.eat(Terminal::Exclamation) else {
         return Ok(None);
@@ -25,7 +25,7 @@ fn next_mark(tokens: &mut Tokens<'_>) -> Result<Option<Place>, Failure>
 
 /// Every `!` that comes next.
 pub fn marks(alloc: Global, tokens: &mut Tokens<'_>) -> Result<Items<Place>, Failure>
-    ensures { Gives (repeat mark_turn (length tokens.old) tokens.old) result tokens.new }
+    ensures { IsParsed (repeat mark_turn (length tokens.old) tokens.old) result tokens.new }
 {
     repeat(alloc, tokens, tokens.len(), |left| next_mark(left))
 }

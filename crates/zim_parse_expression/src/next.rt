@@ -47,7 +47,7 @@ pub fn is_minus(token: &Token) -> bool
 
 /// The sign that a token is.
 pub fn sign_in(token: &Token) -> Sign
-    ensures { result ≡ parser.sign_in token.now }
+    ensures { result ≡ parser.sign_of_token token.now }
 {
     match token {
         Token::Sign(sign) => *sign,
@@ -57,7 +57,7 @@ pub fn sign_in(token: &Token) -> Sign
 
 /// The word that a token is.
 pub fn word_in(token: &Token) -> Word
-    ensures { result ≡ parser.word_in token.now }
+    ensures { result ≡ parser.word_of_token token.now }
 {
     match token {
         Token::Word(word) => *word,

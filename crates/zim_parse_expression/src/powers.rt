@@ -2,7 +2,7 @@
 
 ghost use Rattle.std.specs.Prelude.{◌≡◌};
 ghost use Rattle.zim_tree.specs.Levels.{factorial};
-ghost use Rattle.zim_parse_expression.specs.Outcome.{Gives, Nests};
+ghost use Rattle.zim_parse_expression.specs.Outcome.{IsParsed, Nests};
 ghost use Rattle.zim_parse_expression.specs.Parser as spec;
 ghost use Rattle.zim_parse_expression.specs.Parser.{parse};
 ghost use Rattle.zim_parse_expression.specs.Steps as steps;
@@ -35,7 +35,7 @@ fn marks_behind(
     tokens: &mut Tokens<'_>,
     operand: Boxed<Expr>,
 ) -> Result<Expr, Failure>
-    ensures { Gives (steps.marks_behind operand tokens.old) result tokens.new }
+    ensures { IsParsed (steps.marks_behind operand tokens.old) result tokens.new }
 {
     let places = marks(alloc, tokens)?;
     Ok(factorial(operand, places))
@@ -46,7 +46,7 @@ impl<F: Fn(Global, &mut Tokens<'_>, usize, Wanted) -> Result<Expr, Failure>> Gra
     #[tactic(auto, using(crate::proofs::StepLemmas::postfix_next), unfolding(crate::specs::Parser::and_then))]
     pub fn postfix(&self, tokens: &mut Tokens<'_>) -> Result<Expr, Failure>
         requires { Nests self.now.depth (F.pre self.now.inner) (F.post self.now.inner) }
-        ensures { Gives (spec.postfix_of (parse self.now.depth) tokens.old) result tokens.new }
+        ensures { IsParsed (spec.postfix_of (parse self.now.depth) tokens.old) result tokens.new }
     {
         let operand = self.primary(tokens)?;
         if tokens.sees(Terminal::Exclamation) {
@@ -64,7 +64,7 @@ impl<F: Fn(Global, &mut Tokens<'_>, usize, Wanted) -> Result<Expr, Failure>> Gra
         operator: &Placed,
     ) -> Result<Expr, Failure>
         requires { Nests self.now.depth (F.pre self.now.inner) (F.post self.now.inner) }
-        ensures { Gives (steps.exponent_of (parse self.now.depth) base operator.now tokens.old) result tokens.new }
+        ensures { IsParsed (steps.exponent_of (parse self.now.depth) base operator.now tokens.old) result tokens.new }
     {
         let base = Boxed::new(self.alloc, base)?;
         let signed = tokens.eat_signed();
@@ -82,7 +82,7 @@ impl<F: Fn(Global, &mut Tokens<'_>, usize, Wanted) -> Result<Expr, Failure>> Gra
     #[tactic(auto, using(crate::proofs::StepLemmas::power_next), unfolding(crate::specs::Parser::power_of, crate::specs::Parser::and_then))]
     pub fn power(&self, tokens: &mut Tokens<'_>) -> Result<Expr, Failure>
         requires { Nests self.now.depth (F.pre self.now.inner) (F.post self.now.inner) }
-        ensures { Gives (spec.power_of (parse self.now.depth) tokens.old) result tokens.new }
+        ensures { IsParsed (spec.power_of (parse self.now.depth) tokens.old) result tokens.new }
     {
         let base = self.postfix(tokens)?;
         match tokens.operator(POWER) {
@@ -95,7 +95,7 @@ impl<F: Fn(Global, &mut Tokens<'_>, usize, Wanted) -> Result<Expr, Failure>> Gra
     #[tactic(auto, using(crate::proofs::StepLemmas::unary_next), unfolding(crate::specs::Parser::and_then))]
     pub fn unary(&self, tokens: &mut Tokens<'_>) -> Result<Expr, Failure>
         requires { Nests self.now.depth (F.pre self.now.inner) (F.post self.now.inner) }
-        ensures { Gives (spec.unary_of (parse self.now.depth) tokens.old) result tokens.new }
+        ensures { IsParsed (spec.unary_of (parse self.now.depth) tokens.old) result tokens.new }
     {
         match tokens.eat_signed() {
             None => self.power(tokens),

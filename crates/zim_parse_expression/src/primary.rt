@@ -1,7 +1,7 @@
 //! What binds closest: literals, names, calls, brackets and `if`.
 
 ghost use Rattle.std.specs.Prelude.{[], ◌∷◌};
-ghost use Rattle.zim_parse_expression.specs.Outcome.{Gives, Nests};
+ghost use Rattle.zim_parse_expression.specs.Outcome.{IsParsed, Nests};
 ghost use Rattle.zim_parse_expression.specs.Parser as spec;
 ghost use Rattle.zim_parse_expression.specs.Next.{is_else};
 ghost use Rattle.zim_parse_expression.specs.Parser.{parse, expect};
@@ -27,7 +27,7 @@ impl<F: Fn(Global, &mut Tokens<'_>, usize, Wanted) -> Result<Expr, Failure>> Gra
         with_to: bool,
     ) -> Result<Body, Failure>
         requires { Nests self.now.depth (F.pre self.now.inner) (F.post self.now.inner) }
-        ensures { Gives (steps.span_behind (parse self.now.depth) from with_to tokens.old) result tokens.new }
+        ensures { IsParsed (steps.span_behind (parse self.now.depth) from with_to tokens.old) result tokens.new }
     {
         let to = self.inner_boxed(tokens, Wanted::Sum)?;
         if tokens.eat(Terminal::By).is_none() {
@@ -41,7 +41,7 @@ impl<F: Fn(Global, &mut Tokens<'_>, usize, Wanted) -> Result<Expr, Failure>> Gra
     #[tactic(auto, unfolding(crate::specs::Steps::body_end, crate::specs::Steps::span_behind, crate::specs::Parser::and_then))]
     fn body_behind(&self, tokens: &mut Tokens<'_>, first: Expr) -> Result<Body, Failure>
         requires { Nests self.now.depth (F.pre self.now.inner) (F.post self.now.inner) }
-        ensures { Gives (steps.body_end (parse self.now.depth) first tokens.old) result tokens.new }
+        ensures { IsParsed (steps.body_end (parse self.now.depth) first tokens.old) result tokens.new }
     {
         match tokens.eat_span() {
             None => Ok(Body::Members(self.exprs_behind(tokens, Wanted::Sum, first)?)),
@@ -53,7 +53,7 @@ impl<F: Fn(Global, &mut Tokens<'_>, usize, Wanted) -> Result<Expr, Failure>> Gra
     #[tactic(auto, unfolding(crate::specs::Steps::body_less, crate::specs::Parser::and_then))]
     fn body_tuple(&self, tokens: &mut Tokens<'_>) -> Result<Body, Failure>
         requires { Nests self.now.depth (F.pre self.now.inner) (F.post self.now.inner) }
-        ensures { Gives (steps.body_less (parse self.now.depth) tokens.old) result tokens.new }
+        ensures { IsParsed (steps.body_less (parse self.now.depth) tokens.old) result tokens.new }
     {
         let tuple = self.tuple(tokens)?;
         match tokens.eat(Terminal::In) {
@@ -69,7 +69,7 @@ impl<F: Fn(Global, &mut Tokens<'_>, usize, Wanted) -> Result<Expr, Failure>> Gra
     #[tactic(auto, using(crate::proofs::StepLemmas::body_next), unfolding(crate::specs::Steps::body_less, crate::specs::Steps::body_end, crate::specs::Parser::and_then))]
     fn body(&self, tokens: &mut Tokens<'_>) -> Result<Body, Failure>
         requires { Nests self.now.depth (F.pre self.now.inner) (F.post self.now.inner) }
-        ensures { Gives (spec.body_of (parse self.now.depth) tokens.old) result tokens.new }
+        ensures { IsParsed (spec.body_of (parse self.now.depth) tokens.old) result tokens.new }
     {
         match tokens.class() {
             None => Err(Failure::Syntax),
@@ -86,7 +86,7 @@ impl<F: Fn(Global, &mut Tokens<'_>, usize, Wanted) -> Result<Expr, Failure>> Gra
     #[tactic(auto, unfolding(crate::specs::Steps::call_behind, crate::specs::Parser::and_then))]
     fn call(&self, tokens: &mut Tokens<'_>, place: Place, name: Bytes) -> Result<Expr, Failure>
         requires { Nests self.now.depth (F.pre self.now.inner) (F.post self.now.inner) }
-        ensures { Gives (steps.call_behind (parse self.now.depth) place name tokens.old) result tokens.new }
+        ensures { IsParsed (steps.call_behind (parse self.now.depth) place name tokens.old) result tokens.new }
     {
         if tokens.eat(Terminal::RightParen).is_some() {
             return Ok(Expr::Call(place, name, Items::new(self.alloc)));
@@ -99,7 +99,7 @@ impl<F: Fn(Global, &mut Tokens<'_>, usize, Wanted) -> Result<Expr, Failure>> Gra
     #[tactic(auto, unfolding(crate::specs::Steps::item_behind, crate::specs::Parser::and_then))]
     fn item(&self, tokens: &mut Tokens<'_>, place: Place, name: Bytes) -> Result<Expr, Failure>
         requires { Nests self.now.depth (F.pre self.now.inner) (F.post self.now.inner) }
-        ensures { Gives (steps.item_behind (parse self.now.depth) place name tokens.old) result tokens.new }
+        ensures { IsParsed (steps.item_behind (parse self.now.depth) place name tokens.old) result tokens.new }
     {
         let index = self.exprs(tokens, Wanted::Sum)?;
         tokens.expect(Terminal::RightBracket)?;
@@ -110,7 +110,7 @@ impl<F: Fn(Global, &mut Tokens<'_>, usize, Wanted) -> Result<Expr, Failure>> Gra
     #[tactic(auto, unfolding(crate::specs::Parser::named, crate::specs::Steps::call_behind, crate::specs::Steps::item_behind, crate::specs::Parser::and_then))]
     fn named(&self, tokens: &mut Tokens<'_>, place: Place, name: Bytes) -> Result<Expr, Failure>
         requires { Nests self.now.depth (F.pre self.now.inner) (F.post self.now.inner) }
-        ensures { Gives (spec.named (parse self.now.depth) place name tokens.old) result tokens.new }
+        ensures { IsParsed (spec.named (parse self.now.depth) place name tokens.old) result tokens.new }
     {
         match tokens.class() {
             Some(Class::LeftBracket) => {
@@ -129,7 +129,7 @@ impl<F: Fn(Global, &mut Tokens<'_>, usize, Wanted) -> Result<Expr, Failure>> Gra
     #[tactic(auto, unfolding(crate::specs::Steps::otherwise, crate::specs::Parser::and_then))]
     fn otherwise(&self, tokens: &mut Tokens<'_>) -> Result<Option<Boxed<Expr>>, Failure>
         requires { Nests self.now.depth (F.pre self.now.inner) (F.post self.now.inner) }
-        ensures { Gives (steps.otherwise (parse self.now.depth) tokens.old) result tokens.new }
+        ensures { IsParsed (steps.otherwise (parse self.now.depth) tokens.old) result tokens.new }
     {
         if tokens.eat(Terminal::Else).is_none() {
             tokens.expect(Terminal::End)?;
@@ -151,7 +151,7 @@ impl<F: Fn(Global, &mut Tokens<'_>, usize, Wanted) -> Result<Expr, Failure>> Gra
         branch: Boxed<Expr>,
     ) -> Result<Expr, Failure>
         requires { Nests self.now.depth (F.pre self.now.inner) (F.post self.now.inner) }
-        ensures { Gives (spec.if_end (parse self.now.depth) place vif test branch (expect is_else tokens.old) tokens.old) result tokens.new }
+        ensures { IsParsed (spec.if_end (parse self.now.depth) place vif test branch (expect is_else tokens.old) tokens.old) result tokens.new }
     {
         let otherwise = self.otherwise(tokens)?;
         Ok(Expr::If(place, vif, test, branch, otherwise))
@@ -161,7 +161,7 @@ impl<F: Fn(Global, &mut Tokens<'_>, usize, Wanted) -> Result<Expr, Failure>> Gra
     #[tactic(auto, unfolding(crate::specs::Parser::if_from, crate::specs::Parser::and_then))]
     fn choice(&self, tokens: &mut Tokens<'_>, place: Place, vif: bool) -> Result<Expr, Failure>
         requires { Nests self.now.depth (F.pre self.now.inner) (F.post self.now.inner) }
-        ensures { Gives (spec.if_from (parse self.now.depth) place vif tokens.old) result tokens.new }
+        ensures { IsParsed (spec.if_from (parse self.now.depth) place vif tokens.old) result tokens.new }
     {
         let test = self.inner_boxed(tokens, Wanted::Disjunction)?;
         tokens.expect(Terminal::Then)?;
@@ -173,7 +173,7 @@ impl<F: Fn(Global, &mut Tokens<'_>, usize, Wanted) -> Result<Expr, Failure>> Gra
     #[tactic(auto, unfolding(crate::specs::Parser::function_from, crate::specs::Parser::and_then))]
     fn function(&self, tokens: &mut Tokens<'_>, place: Place, word: Word) -> Result<Expr, Failure>
         requires { Nests self.now.depth (F.pre self.now.inner) (F.post self.now.inner) }
-        ensures { Gives (spec.function_from (parse self.now.depth) place word tokens.old) result tokens.new }
+        ensures { IsParsed (spec.function_from (parse self.now.depth) place word tokens.old) result tokens.new }
     {
         tokens.expect(Terminal::LeftParen)?;
         let given = self.arguments(tokens)?;
@@ -184,7 +184,7 @@ impl<F: Fn(Global, &mut Tokens<'_>, usize, Wanted) -> Result<Expr, Failure>> Gra
     #[tactic(auto, unfolding(crate::specs::Parser::projection_from, crate::specs::Parser::and_then))]
     fn projection(&self, tokens: &mut Tokens<'_>, place: Place) -> Result<Expr, Failure>
         requires { Nests self.now.depth (F.pre self.now.inner) (F.post self.now.inner) }
-        ensures { Gives (spec.projection_from (parse self.now.depth) place tokens.old) result tokens.new }
+        ensures { IsParsed (spec.projection_from (parse self.now.depth) place tokens.old) result tokens.new }
     {
         tokens.expect(Terminal::LeftParen)?;
         let set = self.inner_boxed(tokens, Wanted::Disjunction)?;
@@ -198,7 +198,7 @@ impl<F: Fn(Global, &mut Tokens<'_>, usize, Wanted) -> Result<Expr, Failure>> Gra
     #[tactic(auto, unfolding(crate::specs::Parser::and_then))]
     fn worded(&self, tokens: &mut Tokens<'_>, place: Place, word: Word) -> Result<Expr, Failure>
         requires { Nests self.now.depth (F.pre self.now.inner) (F.post self.now.inner) }
-        ensures { Gives (spec.word_at (parse self.now.depth) place word (word_class word) tokens.old) result tokens.new }
+        ensures { IsParsed (spec.from_word (parse self.now.depth) place word (word_class word) tokens.old) result tokens.new }
     {
         match class_of(&Token::Word(word)) {
             Class::Truth => Ok(Expr::Truth(place, matches!(word, Word::WTrue))),
@@ -214,7 +214,7 @@ impl<F: Fn(Global, &mut Tokens<'_>, usize, Wanted) -> Result<Expr, Failure>> Gra
     #[tactic(auto, unfolding(crate::specs::Parser::and_then))]
     fn bracketed(&self, tokens: &mut Tokens<'_>, place: Place, sign: Sign) -> Result<Expr, Failure>
         requires { Nests self.now.depth (F.pre self.now.inner) (F.post self.now.inner) }
-        ensures { Gives (spec.sign_at (parse self.now.depth) place (sign_class sign) tokens.old) result tokens.new }
+        ensures { IsParsed (spec.sign_at (parse self.now.depth) place (sign_class sign) tokens.old) result tokens.new }
     {
         match sign {
             Sign::SLeftParen => {
@@ -235,7 +235,7 @@ impl<F: Fn(Global, &mut Tokens<'_>, usize, Wanted) -> Result<Expr, Failure>> Gra
     #[tactic(auto, unfolding(crate::specs::Parser::primary_of, crate::specs::Parser::and_then))]
     pub fn primary(&self, tokens: &mut Tokens<'_>) -> Result<Expr, Failure>
         requires { Nests self.now.depth (F.pre self.now.inner) (F.post self.now.inner) }
-        ensures { Gives (spec.primary_of (parse self.now.depth) tokens.old) result tokens.new }
+        ensures { IsParsed (spec.primary_of (parse self.now.depth) tokens.old) result tokens.new }
     {
         let Some(first) = tokens.take() else {
             return Err(Failure::Syntax);

@@ -2,7 +2,7 @@
 
 ghost use Rattle.std.specs.Prelude.{◌≡◌, [], ◌∷◌, length, IfOk};
 ghost use Rattle.zim_tree.specs.Levels.{products, sums};
-ghost use Rattle.zim_parse_expression.specs.Outcome.{Gives, Nests};
+ghost use Rattle.zim_parse_expression.specs.Outcome.{IsParsed, Nests};
 ghost use Rattle.zim_parse_expression.specs.Parser as spec;
 ghost use Rattle.zim_parse_expression.specs.Parser.{parse};
 ghost use Rattle.zim_parse_expression.specs.Steps as steps;
@@ -58,7 +58,7 @@ impl<F: Fn(Global, &mut Tokens<'_>, usize, Wanted) -> Result<Expr, Failure>> Gra
     #[tactic(auto, unfolding(crate::specs::Turns::operand_turn, crate::specs::Parser::and_then))]
     fn next_factor(&self, tokens: &mut Tokens<'_>) -> Result<Option<(Place, Token, Expr)>, Failure>
         requires { Nests self.now.depth (F.pre self.now.inner) (F.post self.now.inner) }
-        ensures { Gives (operand_turn turns.as_operand products (spec.unary_of (parse self.now.depth)) tokens.old) result tokens.new }
+        ensures { IsParsed (operand_turn turns.as_operand products (spec.unary_of (parse self.now.depth)) tokens.old) result tokens.new }
     {
         let Some(operator) = tokens.operator(PRODUCT) else {
             return Ok(None);
@@ -71,7 +71,7 @@ impl<F: Fn(Global, &mut Tokens<'_>, usize, Wanted) -> Result<Expr, Failure>> Gra
     /// The operators like `*` that come next, each with its operand.
     fn factors(&self, tokens: &mut Tokens<'_>) -> Result<Items<(Place, Token, Expr)>, Failure>
         requires { Nests self.now.depth (F.pre self.now.inner) (F.post self.now.inner) }
-        ensures { Gives (repeat (operand_turn turns.as_operand products (spec.unary_of (parse self.now.depth))) (length tokens.old) tokens.old) result tokens.new }
+        ensures { IsParsed (repeat (operand_turn turns.as_operand products (spec.unary_of (parse self.now.depth))) (length tokens.old) tokens.old) result tokens.new }
     {
         repeat(
             self.alloc,
@@ -85,7 +85,7 @@ impl<F: Fn(Global, &mut Tokens<'_>, usize, Wanted) -> Result<Expr, Failure>> Gra
     #[tactic(auto, using(crate::proofs::TurnLaws::product_by_turns), unfolding(crate::specs::Parser::and_then))]
     fn product_behind(&self, tokens: &mut Tokens<'_>, first: Boxed<Expr>) -> Result<Expr, Failure>
         requires { Nests self.now.depth (F.pre self.now.inner) (F.post self.now.inner) }
-        ensures { Gives (steps.chain_behind products (spec.unary_of (parse self.now.depth)) first tokens.old) result tokens.new }
+        ensures { IsParsed (steps.chain_behind products (spec.unary_of (parse self.now.depth)) first tokens.old) result tokens.new }
     {
         let others = self.factors(tokens)?;
         Ok(multiplied(first, others))
@@ -95,7 +95,7 @@ impl<F: Fn(Global, &mut Tokens<'_>, usize, Wanted) -> Result<Expr, Failure>> Gra
     #[tactic(auto, using(crate::proofs::StepLemmas::chain_next), unfolding(crate::specs::Parser::and_then))]
     pub fn product(&self, tokens: &mut Tokens<'_>) -> Result<Expr, Failure>
         requires { Nests self.now.depth (F.pre self.now.inner) (F.post self.now.inner) }
-        ensures { Gives (spec.product_of (parse self.now.depth) tokens.old) result tokens.new }
+        ensures { IsParsed (spec.products_of (parse self.now.depth) tokens.old) result tokens.new }
     {
         let first = self.unary(tokens)?;
         if tokens.begins_operator(PRODUCT) {
@@ -108,7 +108,7 @@ impl<F: Fn(Global, &mut Tokens<'_>, usize, Wanted) -> Result<Expr, Failure>> Gra
     #[tactic(auto, unfolding(crate::specs::Steps::big_behind, crate::specs::Parser::and_then))]
     fn big_behind(&self, tokens: &mut Tokens<'_>, place: Place, word: Word) -> Result<Expr, Failure>
         requires { Nests self.now.depth (F.pre self.now.inner) (F.post self.now.inner) }
-        ensures { Gives (steps.big_behind (parse self.now.depth) place word tokens.old) result tokens.new }
+        ensures { IsParsed (steps.big_behind (parse self.now.depth) place word tokens.old) result tokens.new }
     {
         let index = self.index(tokens)?;
         let with_do = tokens.separator()?;
@@ -120,7 +120,7 @@ impl<F: Fn(Global, &mut Tokens<'_>, usize, Wanted) -> Result<Expr, Failure>> Gra
     #[tactic(auto, unfolding(crate::specs::Parser::big_of, crate::specs::Steps::big_behind, crate::specs::Parser::and_then))]
     fn big(&self, tokens: &mut Tokens<'_>) -> Result<Expr, Failure>
         requires { Nests self.now.depth (F.pre self.now.inner) (F.post self.now.inner) }
-        ensures { Gives (spec.big_of (parse self.now.depth) tokens.old) result tokens.new }
+        ensures { IsParsed (spec.big_of (parse self.now.depth) tokens.old) result tokens.new }
     {
         let Some(first) = tokens.take() else {
             return Err(Failure::Syntax);
@@ -137,7 +137,7 @@ impl<F: Fn(Global, &mut Tokens<'_>, usize, Wanted) -> Result<Expr, Failure>> Gra
     #[tactic(auto, using(crate::proofs::StepLemmas::loop_next), unfolding(crate::specs::Parser::and_then))]
     fn signed_loop(&self, tokens: &mut Tokens<'_>) -> Result<Expr, Failure>
         requires { Nests self.now.depth (F.pre self.now.inner) (F.post self.now.inner) }
-        ensures { Gives (spec.loop_of (parse self.now.depth) tokens.old) result tokens.new }
+        ensures { IsParsed (spec.loop_of (parse self.now.depth) tokens.old) result tokens.new }
     {
         match tokens.eat_signed() {
             None => self.big(tokens),
@@ -157,7 +157,7 @@ impl<F: Fn(Global, &mut Tokens<'_>, usize, Wanted) -> Result<Expr, Failure>> Gra
         operator: &Placed,
     ) -> Result<Expr, Failure>
         requires { Nests self.now.depth (F.pre self.now.inner) (F.post self.now.inner) }
-        ensures { Gives (steps.loop_behind (parse self.now.depth) first operator.now tokens.old) result tokens.new }
+        ensures { IsParsed (steps.loop_behind (parse self.now.depth) first operator.now tokens.old) result tokens.new }
     {
         let token = operator.token.copy()?;
         let last = self.signed_loop(tokens)?;
@@ -169,7 +169,7 @@ impl<F: Fn(Global, &mut Tokens<'_>, usize, Wanted) -> Result<Expr, Failure>> Gra
     #[tactic(auto, using(crate::proofs::StepLemmas::term_next), unfolding(crate::specs::Parser::term_of, crate::specs::Parser::and_then))]
     pub fn term(&self, tokens: &mut Tokens<'_>) -> Result<Expr, Failure>
         requires { Nests self.now.depth (F.pre self.now.inner) (F.post self.now.inner) }
-        ensures { Gives (spec.term_of (parse self.now.depth) tokens.old) result tokens.new }
+        ensures { IsParsed (spec.term_of (parse self.now.depth) tokens.old) result tokens.new }
     {
         if tokens.opens() {
             return self.signed_loop(tokens);
@@ -185,7 +185,7 @@ impl<F: Fn(Global, &mut Tokens<'_>, usize, Wanted) -> Result<Expr, Failure>> Gra
     #[tactic(auto, unfolding(crate::specs::Turns::operand_turn, crate::specs::Parser::and_then))]
     fn next_summand(&self, tokens: &mut Tokens<'_>) -> Result<Option<(Place, Token, Expr)>, Failure>
         requires { Nests self.now.depth (F.pre self.now.inner) (F.post self.now.inner) }
-        ensures { Gives (operand_turn turns.as_operand sums (spec.term_of (parse self.now.depth)) tokens.old) result tokens.new }
+        ensures { IsParsed (operand_turn turns.as_operand sums (spec.term_of (parse self.now.depth)) tokens.old) result tokens.new }
     {
         let Some(operator) = tokens.operator(SUM) else {
             return Ok(None);
@@ -198,7 +198,7 @@ impl<F: Fn(Global, &mut Tokens<'_>, usize, Wanted) -> Result<Expr, Failure>> Gra
     /// The operators like `+` that come next, each with its operand.
     fn summands(&self, tokens: &mut Tokens<'_>) -> Result<Items<(Place, Token, Expr)>, Failure>
         requires { Nests self.now.depth (F.pre self.now.inner) (F.post self.now.inner) }
-        ensures { Gives (repeat (operand_turn turns.as_operand sums (spec.term_of (parse self.now.depth))) (length tokens.old) tokens.old) result tokens.new }
+        ensures { IsParsed (repeat (operand_turn turns.as_operand sums (spec.term_of (parse self.now.depth))) (length tokens.old) tokens.old) result tokens.new }
     {
         repeat(
             self.alloc,
@@ -212,7 +212,7 @@ impl<F: Fn(Global, &mut Tokens<'_>, usize, Wanted) -> Result<Expr, Failure>> Gra
     #[tactic(auto, using(crate::proofs::TurnLaws::sum_by_turns), unfolding(crate::specs::Parser::and_then))]
     fn sum_behind(&self, tokens: &mut Tokens<'_>, first: Boxed<Expr>) -> Result<Expr, Failure>
         requires { Nests self.now.depth (F.pre self.now.inner) (F.post self.now.inner) }
-        ensures { Gives (steps.chain_behind sums (spec.term_of (parse self.now.depth)) first tokens.old) result tokens.new }
+        ensures { IsParsed (steps.chain_behind sums (spec.term_of (parse self.now.depth)) first tokens.old) result tokens.new }
     {
         let others = self.summands(tokens)?;
         Ok(added(first, others))
@@ -222,7 +222,7 @@ impl<F: Fn(Global, &mut Tokens<'_>, usize, Wanted) -> Result<Expr, Failure>> Gra
     #[tactic(auto, using(crate::proofs::StepLemmas::chain_next), unfolding(crate::specs::Parser::and_then))]
     pub fn sum(&self, tokens: &mut Tokens<'_>) -> Result<Expr, Failure>
         requires { Nests self.now.depth (F.pre self.now.inner) (F.post self.now.inner) }
-        ensures { Gives (spec.sum_of (parse self.now.depth) tokens.old) result tokens.new }
+        ensures { IsParsed (spec.sum_of (parse self.now.depth) tokens.old) result tokens.new }
     {
         let first = self.term(tokens)?;
         if tokens.begins_operator(SUM) {

@@ -1,5 +1,5 @@
 ghost use Rattle.std.specs.Prelude.{◌≡◌, ◌∷◌, ◌<◌, ◌^◌, [], length, Some, None, MatchOption};
-ghost use Rattle.zim_parse_expression.specs.Outcome.{Gives, Finds, class_next, found_next, is_less_start, terminal_test, sign_test, word_test};
+ghost use Rattle.zim_parse_expression.specs.Outcome.{IsParsed, Finds, class_next, found_next, is_less_start, terminal_test, sign_test, word_test};
 ghost use Rattle.zim_parse_expression.specs.Steps.{operator_of, begins_operator, sees_class};
 ghost use Rattle.zim_parse_expression.specs.Next as next;
 ghost use Rattle.zim_parse_expression.specs.Parser as spec;
@@ -146,7 +146,7 @@ impl<'a> Tokens<'a> {
 
     /// Takes the next token, which is to be this terminal.
     pub fn expect(&mut self, wanted: Terminal) -> Result<Place, Failure>
-        ensures { Gives (spec.expect (terminal_test wanted) self.old) result self.new }
+        ensures { IsParsed (spec.expect (terminal_test wanted) self.old) result self.new }
     {
         match self.eat(wanted) {
             Some(place) => Ok(place),
@@ -169,7 +169,7 @@ impl<'a> Tokens<'a> {
 
     /// Takes the next token, which is to be this sign.
     pub fn expect_sign(&mut self, wanted: Sign) -> Result<Place, Failure>
-        ensures { Gives (named.expect_token (sign_test wanted) self.old) result self.new }
+        ensures { IsParsed (named.expect_token (sign_test wanted) self.old) result self.new }
     {
         match self.eat_sign(wanted) {
             Some(place) => Ok(place),
@@ -192,7 +192,7 @@ impl<'a> Tokens<'a> {
 
     /// Takes the next token, which is to be this word.
     pub fn expect_word(&mut self, wanted: Word) -> Result<Place, Failure>
-        ensures { Gives (named.expect_token (word_test wanted) self.old) result self.new }
+        ensures { IsParsed (named.expect_token (word_test wanted) self.old) result self.new }
     {
         match self.eat_word(wanted) {
             Some(place) => Ok(place),
@@ -234,7 +234,7 @@ impl<'a> Tokens<'a> {
 
     /// Takes `:` or `do`, and says whether it is `do`.
     pub fn separator(&mut self) -> Result<bool, Failure>
-        ensures { Gives (spec.flag_of spec.separator_in self.old) result self.new }
+        ensures { IsParsed (spec.flag_of spec.separator_in self.old) result self.new }
     {
         let Some(first) = self.take() else {
             return Err(Failure::Syntax);

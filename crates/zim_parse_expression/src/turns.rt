@@ -1,7 +1,7 @@
 //! Lists, each of any items.
 
 ghost use Rattle.std.specs.Prelude.{◌≡◌, [], ◌∷◌, ◌++◌, length, OnOk};
-ghost use Rattle.zim_parse_expression.specs.Outcome.{Gives, IsParser, IsTurn};
+ghost use Rattle.zim_parse_expression.specs.Outcome.{IsParsed, IsParser, IsTurn};
 ghost use Rattle.zim_parse_expression.specs.Parser as spec;
 ghost use Rattle.zim_parse_expression.specs.Parser.{Parser};
 ghost use Rattle.zim_parse_expression.specs.Turns.{Turn, repeat};
@@ -33,7 +33,7 @@ pub fn repeat<A: Drop, T: Fn(&mut Tokens<'_>) -> Result<Option<A>, Failure>>(
     turn: T,
 ) -> Result<Items<A>, Failure>
     requires { T.IsAlwaysCallable turn }
-    ensures { (of : Turn A) → IsTurn of (T.post turn) → Gives (repeat of turns tokens.old) result tokens.new }
+    ensures { (of : Turn A) → IsTurn of (T.post turn) → IsParsed (repeat of turns tokens.old) result tokens.new }
 {
     let mut items = Items::new(alloc);
     for _turn in 0..turns {
@@ -53,7 +53,7 @@ pub fn items_behind<A: Drop, I: Fn(&mut Tokens<'_>) -> Result<A, Failure>>(
     item: I,
 ) -> Result<Items<A>, Failure>
     requires { I.IsAlwaysCallable item }
-    ensures { (of : Parser A) → IsParser of (I.post item) → Gives (spec.items_behind of (length tokens.old) first tokens.old) result tokens.new }
+    ensures { (of : Parser A) → IsParser of (I.post item) → IsParsed (spec.items_behind of (length tokens.old) first tokens.old) result tokens.new }
 {
     let mut items = Items::new(alloc);
     add(alloc, &mut items, first)?;
@@ -77,7 +77,7 @@ pub fn items_of<A: Drop, I: Fn(&mut Tokens<'_>) -> Result<A, Failure>>(
     item: I,
 ) -> Result<Items<A>, Failure>
     requires { I.IsAlwaysCallable item }
-    ensures { (of : Parser A) → IsParser of (I.post item) → Gives (spec.items_of of tokens.old) result tokens.new }
+    ensures { (of : Parser A) → IsParser of (I.post item) → IsParsed (spec.items_of of tokens.old) result tokens.new }
 {
     let first = item(tokens)?;
     items_behind(alloc, tokens, first, item)

@@ -5,7 +5,7 @@ use Rattle.zim_fault.specs.declared.faults.Place.{Place}
 use Rattle.zim_fault.specs.declared.tokens.Token.{Token}
 use Rattle.zim_fault.specs.declared.tokens.Relation.{Relation}
 use Rattle.zim_tree.specs.declared.expr.Expr.{Expr}
-use Rattle.zim_nesting.specs.Depth.{plain, a_loop, depth, angle_depth, operations_depth, relations_depth, conjuncts_depth, disjuncts_depth}
+use Rattle.zim_nesting.specs.Depth.{no_nesting, a_loop, depth, angle_depth, operations_depth, relations_depth, conjuncts_depth, disjuncts_depth}
 use Rattle.zim_nesting.proofs.CountsLemmas.{given, followed-next}
 use Rattle.zim_nesting.proofs.DepthLaws.{index-view, depth-Proj, depth-If, depth-Big, depth-Times, depth-Plus, depth-Compare, depth-And, depth-Or, depth-Forall, depth-Span}
 use Rattle.zim_nesting.proofs.exprs.+depth.Goals as goal
@@ -61,12 +61,12 @@ depth_of_index-returns t c =
 pub depth_of_exprs-loop-tree-preserved : goal.depth_of_exprs-loop-tree-preserved
 depth_of_exprs-loop-tree-preserved t c =
     given _ _ (c.then-counts.ensures _ _ c.loop-tree.invariant c.depth_of_expr.ensures)
-    (followed-next depth plain c.args.trees.now c.loop-tree.tree-index c.tree-item.result c.loop-tree-test.true c.tree-item.is)
+    (followed-next depth no_nesting c.args.trees.now c.loop-tree.tree-index c.tree-item.result c.loop-tree-test.true c.tree-item.is)
 
 pub depth_of_angles-loop-tree-preserved : goal.depth_of_angles-loop-tree-preserved
 depth_of_angles-loop-tree-preserved t c =
     given _ _ (c.then-counts.ensures _ _ c.loop-tree.invariant c.depth_of_angle.ensures)
-    (followed-next angle_depth plain c.args.trees.now c.loop-tree.tree-index c.tree-item.result c.loop-tree-test.true c.tree-item.is)
+    (followed-next angle_depth no_nesting c.args.trees.now c.loop-tree.tree-index c.tree-item.result c.loop-tree-test.true c.tree-item.is)
 
 pub depth_of_operations-loop-place-preserved : goal.depth_of_operations-loop-place-preserved
 depth_of_operations-loop-place-preserved t c = λ d is.

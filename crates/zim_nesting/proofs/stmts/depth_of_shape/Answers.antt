@@ -1,5 +1,5 @@
 -- The brackets, and what stands behind them.
-use Rattle.zim_nesting.specs.Depth.{plain, inside}
+use Rattle.zim_nesting.specs.Depth.{no_nesting, nesting_in_brackets}
 use Rattle.zim_nesting.proofs.CountsLemmas.{given}
 use Rattle.zim_nesting.proofs.stmts.depth_of_shape.Goals as goal
 
@@ -16,4 +16,4 @@ returns-in-Var c =
 
 pub returns-in-Define : goal.returns-in-Define
 returns-in-Define c =
-    given _ _ (c.then-in-Define.ensures (inside plain) _ (c.inside.ensures plain c.plain.ensures) c.depth_of_expr-in-Define.ensures) (simp (c.get-in-Define.ensures, c.in-Define.is))
+    given _ _ (c.then-in-Define.ensures (nesting_in_brackets no_nesting) _ (c.inside.ensures no_nesting c.plain.ensures) c.depth_of_expr-in-Define.ensures) (simp (c.get-in-Define.ensures, c.in-Define.is))

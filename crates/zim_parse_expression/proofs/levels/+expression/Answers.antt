@@ -3,7 +3,7 @@ use Rattle.std.proofs.Common.{◌≡◌, ℕ, zero, suc, ◌-◌, ◌<◌, List,
 use Rattle.zim_fault.specs.declared.tokens.Placed.{Placed}
 use Rattle.zim_tree.specs.declared.expr.Expr.{Expr}
 use Rattle.zim_tree.specs.Levels.{Level}
-use Rattle.zim_parse_expression.specs.Outcome.{Gives, level_wanted}
+use Rattle.zim_parse_expression.specs.Outcome.{IsParsed, level_wanted}
 use Rattle.zim_parse_expression.specs.Parser.{Parsed, at_level, parse}
 use Rattle.zim_parse_expression.proofs.levels.+expression.Goals as goal
 
@@ -23,4 +23,4 @@ returns-then-depth-eq0 t c = λ _. none_deeper c.args.depth (level_wanted c.args
 pub returns : goal.returns
 returns t c =
     let e = one_deeper c.args.depth (level_wanted c.args.level) c.args.tokens.now (omega arith) in
-    subst (λ (p : Parsed Expr). Gives p c.level.result c.level.new.tokens) (sym e) c.level.ensures
+    subst (λ (p : Parsed Expr). IsParsed p c.level.result c.level.new.tokens) (sym e) c.level.ensures

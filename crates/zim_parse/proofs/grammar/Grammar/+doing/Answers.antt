@@ -2,7 +2,7 @@
 use Rattle.std.proofs.Common.{◌≡◌, ℕ, zero, suc, ◌-◌, ◌<◌, List, [], ◌∷◌, None, refl, sym, subst, arith}
 use Rattle.zim_fault.specs.declared.tokens.Placed.{Placed}
 use Rattle.zim_tree.specs.declared.stmt.Doing.{Doing}
-use Rattle.zim_parse_expression.specs.Outcome.{Gives}
+use Rattle.zim_parse_expression.specs.Outcome.{IsParsed}
 use Rattle.zim_parse_expression.specs.Parser.{Parsed, Inner, parse}
 use Rattle.zim_parse.specs.StatementParser.{doing_of}
 use Rattle.zim_parse.specs.StatementSteps.{doing_by}
@@ -25,4 +25,4 @@ doing-returns-then-loops-eq0 t c = λ _. none_left (parse c.args.self.now.depth)
 pub doing-returns : goal.doing-returns
 doing-returns t c =
     let e = one_less (parse c.args.self.now.depth) c.args.loops c.args.tokens.now (omega arith) in
-    subst (λ (p : Parsed Doing). Gives p c.doing_by.result c.doing_by.new.tokens) (sym e) c.doing_by.ensures
+    subst (λ (p : Parsed Doing). IsParsed p c.doing_by.result c.doing_by.new.tokens) (sym e) c.doing_by.ensures
