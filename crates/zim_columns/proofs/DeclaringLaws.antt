@@ -19,7 +19,7 @@ use Rattle.zim_rows.specs.declared.faults.EncodeFault.TheVariants as encode
 use Rattle.zim_rows.specs.declared.rows.RowKind.TheVariants.{One}
 use Rattle.zim_rows.specs.System.{LinearSystem, IsColumn, column_of, column_at, row_of, Extends}
 use Rattle.zim_rows.specs.Covered.{StandsAsRow, IsCoveredColumn, IsCovered}
-use Rattle.zim_rows.specs.Steps.{Step, placed, fault_of_kind, encode_cause, Leaves}
+use Rattle.zim_rows.specs.Steps.{Step, step_placed, fault_here, encode_cause, Leaves}
 use Rattle.zim_rows.specs.Extending.{IsCoveredStep}
 use Rattle.zim_rows.proofs.StepLaws.{placed_is, step_extends}
 use Rattle.zim_rows.proofs.CoveredStepLaws.{stands_left, stands_right, side_further, covered_further}
@@ -30,7 +30,7 @@ use Rattle.zim_columns.specs.declared.asks.VarKind.{VarKind}
 use Rattle.zim_columns.specs.declared.asks.VarKind.TheVariants.{Real, Integer, Binary}
 use Rattle.zim_columns.specs.declared.declared.Declared.{Declared}
 use Rattle.zim_columns.specs.Bounds.{takes_whole, low_side, high_side, sides_of, column_asked, are_crossed, is_infinity, is_minus_infinity, cross, bounds_cross}
-use Rattle.zim_columns.specs.Declaring.{side_row, side_rows, next_column, step_asked, declared_as, declaration, IsInSystem}
+use Rattle.zim_columns.specs.Declaring.{side_row, side_rows, next_column, step_asked, declared_as, declaring, IsInSystem}
 use Rattle.zim_columns.proofs.BoundsLaws.{none_of}
 
 -- ---- the column is one
@@ -81,9 +81,9 @@ pub column_may_be : (ask : Ask) (integer : Bool) (sides : Sides) (b : Bool) → 
 column_may_be ask integer sides b e f is apart =
     All-cons IsColumn (column_of integer sides) [] (subst IsColumn (sym (column_is ask integer sides e f)) (column_fits ask (bounds_are ask sides b false f is apart))) (All-nil IsColumn)
 
-pub crossed_stops : (columns : List Declared) (system : LinearSystem) (from : RowFrom) (ask : Ask) (sides : Sides) (b : Bool) (stop : EncodeFault) → sides ≡ sides_of ask.kind ask.lower ask.upper → b ≡ cross ask.lower ask.upper sides → b ≡ true → stop ≡ encode.Fault (fault_of_kind BoundsCross from.place)
-    → Stops (declaration columns system from ask) (encode_cause stop)
-unfolding declaration
+pub crossed_stops : (columns : List Declared) (system : LinearSystem) (from : RowFrom) (ask : Ask) (sides : Sides) (b : Bool) (stop : EncodeFault) → sides ≡ sides_of ask.kind ask.lower ask.upper → b ≡ cross ask.lower ask.upper sides → b ≡ true → stop ≡ encode.Fault (fault_here BoundsCross from.place)
+    → Stops (declaring columns system from ask) (encode_cause stop)
+unfolding declaring
 crossed_stops columns system from ask sides b stop f is crossed e =
     rw (e, bounds_are ask sides b true f is crossed) refl
 
@@ -93,9 +93,9 @@ step_is : (system : LinearSystem) (from : RowFrom) (ask : Ask) (integer : Bool) 
 step_is system from ask integer sides rows j e f n made =
     ap₂ (λ (c : Column) (rs : List GivenRow). record { columns = c ∷ []; rows = rs }) (column_is ask integer sides e f) (made ∙ ap₂ (side_rows from) n f)
 
-declared_is : (columns : List Declared) (system : LinearSystem) (from : RowFrom) (ask : Ask) (answer : Result LinearSystem Fault) → bounds_cross ask ≡ false → placed from.place system (step_asked system from ask) ≡ answer
-    → declaration columns system from ask ≡ (answer >>= λ after. Ok (columns ++ declared_as (next_column system) ask ∷ [], after))
-unfolding declaration
+declared_is : (columns : List Declared) (system : LinearSystem) (from : RowFrom) (ask : Ask) (answer : Result LinearSystem Fault) → bounds_cross ask ≡ false → step_placed from.place system (step_asked system from ask) ≡ answer
+    → declaring columns system from ask ≡ (answer >>= λ after. Ok (columns ++ declared_as (next_column system) ask ∷ [], after))
+unfolding declaring
 declared_is columns system from ask answer apart e = rw (apart, e) refl
 
 -- a step as the code makes it, and how the code came to it
@@ -110,28 +110,28 @@ made system from ask integer sides b rows j e f is apart n rows_are = record {
   step_is = step_is system from ask integer sides rows j e f n rows_are;
 }
 
-stopped : (columns : List Declared) (system new : LinearSystem) (from : RowFrom) (ask : Ask) (stop : EncodeFault) → bounds_cross ask ≡ false → Leaves (placed from.place system (step_asked system from ask)) new (Err stop) → Stops (declaration columns system from ask) (encode_cause stop)
+stopped : (columns : List Declared) (system new : LinearSystem) (from : RowFrom) (ask : Ask) (stop : EncodeFault) → bounds_cross ask ≡ false → Leaves (step_placed from.place system (step_asked system from ask)) new (Err stop) → Stops (declaring columns system from ask) (encode_cause stop)
 stopped columns system new from ask (encode.Fault fault) apart h =
     declared_is columns system from ask (Err fault) apart h
 stopped columns system new from ask encode.Memory apart h = tt
 
-pub step_stops : (columns : List Declared) (system new : LinearSystem) (from : RowFrom) (ask : Ask) (step : Step) (result : Result Unit EncodeFault) (stop : EncodeFault) → Made system from ask step → Leaves (placed from.place system step) new result → result ≡ Err stop → Stops (declaration columns system from ask) (encode_cause stop)
+pub step_stops : (columns : List Declared) (system new : LinearSystem) (from : RowFrom) (ask : Ask) (step : Step) (result : Result Unit EncodeFault) (stop : EncodeFault) → Made system from ask step → Leaves (step_placed from.place system step) new result → result ≡ Err stop → Stops (declaring columns system from ask) (encode_cause stop)
 step_stops columns system new from ask step result stop m h e =
     stopped columns system new from ask stop m.uncrossed
-    (subst (λ (s : Step). Leaves (placed from.place system s) new (Err stop)) m.step_is (subst (Leaves (placed from.place system step) new) e h))
+    (subst (λ (s : Step). Leaves (step_placed from.place system s) new (Err stop)) m.step_is (subst (Leaves (step_placed from.place system step) new) e h))
 
-placed_ok : (system new : LinearSystem) (from : RowFrom) (ask : Ask) (step : Step) (result : Result Unit EncodeFault) (unit : Unit {0}) → Made system from ask step → Leaves (placed from.place system step) new result → result ≡ Ok unit → placed from.place system (step_asked system from ask) ≡ Ok new
+placed_ok : (system new : LinearSystem) (from : RowFrom) (ask : Ask) (step : Step) (result : Result Unit EncodeFault) (unit : Unit {0}) → Made system from ask step → Leaves (step_placed from.place system step) new result → result ≡ Ok unit → step_placed from.place system (step_asked system from ask) ≡ Ok new
 placed_ok system new from ask step result unit m h e =
-    subst (λ (s : Step). placed from.place system s ≡ Ok new) m.step_is (subst (Leaves (placed from.place system step) new) e h)
+    subst (λ (s : Step). step_placed from.place system s ≡ Ok new) m.step_is (subst (Leaves (step_placed from.place system step) new) e h)
 
-declared_ok : (columns listed : List Declared) (system new : LinearSystem) (from : RowFrom) (ask : Ask) (j : ℕ) → bounds_cross ask ≡ false → placed from.place system (step_asked system from ask) ≡ Ok new → j ≡ next_column system → listed ≡ columns ++ declared_as j ask ∷ [] → declaration columns system from ask ≡ Ok (listed, new)
+declared_ok : (columns listed : List Declared) (system new : LinearSystem) (from : RowFrom) (ask : Ask) (j : ℕ) → bounds_cross ask ≡ false → step_placed from.place system (step_asked system from ask) ≡ Ok new → j ≡ next_column system → listed ≡ columns ++ declared_as j ask ∷ [] → declaring columns system from ask ≡ Ok (listed, new)
 declared_ok columns listed system new from ask j apart h n l =
     declared_is columns system from ask (Ok new) apart h
     ∙ ap (λ (ds : List Declared). Ok (ds, new)) (sym (l ∙ ap (λ (k : ℕ). columns ++ declared_as k ask ∷ []) n))
 
 -- ---- the system after it
 
-declared_extends : (system new : LinearSystem) (from : RowFrom) (ask : Ask) → placed from.place system (step_asked system from ask) ≡ Ok new → Extends new system
+declared_extends : (system new : LinearSystem) (from : RowFrom) (ask : Ask) → step_placed from.place system (step_asked system from ask) ≡ Ok new → Extends new system
 declared_extends system new from ask h =
     subst (λ (s : LinearSystem). Extends s system) (sym (placed_is from.place system new (step_asked system from ask) h)) (step_extends system (step_asked system from ask))
 
@@ -167,12 +167,12 @@ step_covers system from ask j some few =
     only : 1 ≡ j
     only = omega arith
 
-declared_covered : (system new : LinearSystem) (from : RowFrom) (ask : Ask) → placed from.place system (step_asked system from ask) ≡ Ok new → IsCovered system → IsCovered new
+declared_covered : (system new : LinearSystem) (from : RowFrom) (ask : Ask) → step_placed from.place system (step_asked system from ask) ≡ Ok new → IsCovered system → IsCovered new
 declared_covered system new from ask h covered =
     subst IsCovered (sym (placed_is from.place system new (step_asked system from ask) h))
     (covered_further system (step_asked system from ask) covered (step_covers system from ask))
 
-declared_listed : (columns listed : List Declared) (system new : LinearSystem) (from : RowFrom) (ask : Ask) (j : ℕ) → placed from.place system (step_asked system from ask) ≡ Ok new → j ≡ next_column system → listed ≡ columns ++ declared_as j ask ∷ [] → All (IsInSystem system) columns → All (IsInSystem new) listed
+declared_listed : (columns listed : List Declared) (system new : LinearSystem) (from : RowFrom) (ask : Ask) (j : ℕ) → step_placed from.place system (step_asked system from ask) ≡ Ok new → j ≡ next_column system → listed ≡ columns ++ declared_as j ask ∷ [] → All (IsInSystem system) columns → All (IsInSystem new) listed
 declared_listed columns listed system new from ask j h n l each =
     let size : length new.columns ≡ length system.columns + 1 =
     ap (λ (s : LinearSystem). length s.columns) (placed_is from.place system new (step_asked system from ask) h) ∙ length-append system.columns (column_asked ask ∷ []) in
@@ -184,12 +184,12 @@ declared_listed columns listed system new from ask j h n l each =
 
 -- the answer, and what becomes of the system and of the list
 pub record Outcome (columns listed : List Declared) (system new : LinearSystem) (from : RowFrom) (ask : Ask) : Type 0 where
-  pub answer : declaration columns system from ask ≡ Ok (listed, new)
+  pub answer : declaring columns system from ask ≡ Ok (listed, new)
   pub extends : Extends new system
   pub covered : IsCovered system → IsCovered new
   pub in_system : All (IsInSystem new) listed
 
-pub outcome : (columns listed : List Declared) (system new : LinearSystem) (from : RowFrom) (ask : Ask) (step : Step) (result : Result Unit EncodeFault) (unit : Unit {0}) (j : ℕ) → Made system from ask step → Leaves (placed from.place system step) new result → result ≡ Ok unit → j ≡ next_column system
+pub outcome : (columns listed : List Declared) (system new : LinearSystem) (from : RowFrom) (ask : Ask) (step : Step) (result : Result Unit EncodeFault) (unit : Unit {0}) (j : ℕ) → Made system from ask step → Leaves (step_placed from.place system step) new result → result ≡ Ok unit → j ≡ next_column system
     → listed ≡ columns ++ declared_as j ask ∷ [] → All (IsInSystem system) columns → Outcome columns listed system new from ask
 outcome columns listed system new from ask step result unit j m h e n l each =
     let here = placed_ok system new from ask step result unit m h e in

@@ -5,18 +5,18 @@ use Rattle.std.specs.Cmp.Lexicographic.{pointwise, pointwise_decides, bytes_deci
 use Rattle.std.specs.List.{find}
 use Rattle.std.specs.Option.{option_map}
 use Rattle.std.proofs.lemmas.Bool.{and_from, and_parts, le-leb, leb-true}
-use Rattle.zim_tuples.specs.Elements.{same, same_Decides}
+use Rattle.zim_tuples.specs.Elements.{same_element, same_Decides}
 use Rattle.zim_tuples.specs.declared.elements.Elem.{Elem}
 use Rattle.zim_columns.specs.declared.declared.Declared.{Declared}
 use Rattle.zim_columns.specs.Names.{Named, is_named, are_same, known_by, column_declared, are_rising, IsKnownBy}
 
 pub are_same_equiv : IsEquivalence are_same
-are_same_equiv = and_equiv (on_equiv (λ (n : Named). n.0) nat_list_eq_equiv) (on_equiv (λ (n : Named). n.1) (lists_equiv (decided same same_Decides)))
+are_same_equiv = and_equiv (on_equiv (λ (n : Named). n.0) nat_list_eq_equiv) (on_equiv (λ (n : Named). n.1) (lists_equiv (decided same_element same_Decides)))
 
 -- names that are the same are equal, and so are the tuples with them
 pub same_is : (one other : Named) → IsTrue (are_same one other) → (one.0 ≡ other.0) × (one.1 ≡ other.1)
 same_is one other h =
-    let parts = and_parts (pointwise nat_eq one.0 other.0) (pointwise same one.1 other.1) h in
+    let parts = and_parts (pointwise nat_eq one.0 other.0) (pointwise same_element one.1 other.1) h in
     ((bytes_decides one.0 other.0).0 parts.0, (pointwise_decides same_Decides one.1 other.1).0 parts.1)
 
 abbrev column_of : Declared → ℕ
@@ -33,7 +33,7 @@ found_within first (d ∷ ds) name tuple j rising e =
     by (is_named name tuple d) e (leb-true first d.column parts.0) (found_within (suc d.column) ds name tuple j parts.1)
   where
     by : (b : Bool) → option_map column_of (cond b (Some d) (find (is_named name tuple) ds)) ≡ Some j → first ≤ d.column → (column_declared ds name tuple ≡ Some j → suc d.column ≤ j) → first ≤ j
-    by true f le rest = let same = some_is d.column j f in omega arith
+    by true f le rest = let same_element = some_is d.column j f in omega arith
     by false f le rest = let more = rest f in omega arith
 
 -- a column is found by one name and one tuple

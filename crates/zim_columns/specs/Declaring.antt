@@ -14,7 +14,7 @@ use Rattle.zim_rows.specs.declared.rows.Sense.{Sense}
 use Rattle.zim_rows.specs.declared.rows.Sense.TheVariants.{AtLeast, AtMost}
 use Rattle.zim_rows.specs.declared.faults.EncodeFault.{EncodeFault}
 use Rattle.zim_rows.specs.System.{LinearSystem, row_of}
-use Rattle.zim_rows.specs.Steps.{Step, placed, fault_of_kind, encode_cause}
+use Rattle.zim_rows.specs.Steps.{Step, step_placed, fault_here, encode_cause}
 use Rattle.zim_columns.specs.declared.asks.Ask.{Ask}
 use Rattle.zim_columns.specs.declared.declared.Declared.{Declared}
 use Rattle.zim_columns.specs.Bounds.{column_asked, bounds_cross}
@@ -52,12 +52,12 @@ declared_as j ask = record {
 
 -- A declaration puts its step at the end of the system, and the declared column, with the number of the new one, at the end of the list. It stops
 -- at the place where the bounds cross, or else where the step has no room.
-unfoldable pub declaration : List Declared → LinearSystem → RowFrom → Ask → Result (List Declared × LinearSystem) Fault
-declaration columns system from ask =
+unfoldable pub declaring : List Declared → LinearSystem → RowFrom → Ask → Result (List Declared × LinearSystem) Fault
+declaring columns system from ask =
     cond
     (bounds_cross ask)
-    (Err (fault_of_kind BoundsCross from.place))
-    (placed from.place system (step_asked system from ask) >>= λ after. Ok (columns ++ declared_as (next_column system) ask ∷ [], after))
+    (Err (fault_here BoundsCross from.place))
+    (step_placed from.place system (step_asked system from ask) >>= λ after. Ok (columns ++ declared_as (next_column system) ask ∷ [], after))
 
 -- A call leaves the list and the system that the declaration gives, and its fault is the declaration's. Want of memory is free.
 abbrev pub Declares : Result (List Declared × LinearSystem) Fault → List Declared → LinearSystem → Result Unit EncodeFault → Type 0

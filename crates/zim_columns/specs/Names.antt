@@ -3,7 +3,7 @@ use Rattle.std.specs.Prelude.{ℕ, suc, ◌≡◌, ◌&&◌, Bool, true, IsTrue,
 use Rattle.std.specs.List.{find}
 use Rattle.std.specs.Option.{option_map}
 use Rattle.std.specs.Cmp.Lexicographic.{pointwise}
-use Rattle.zim_tuples.specs.Elements.{same}
+use Rattle.zim_tuples.specs.Elements.{same_element}
 use Rattle.zim_tuples.specs.declared.elements.Elem.{Elem}
 use Rattle.zim_columns.specs.declared.declared.Declared.{Declared}
 
@@ -13,7 +13,7 @@ Named = List ℕ × List Elem
 
 -- Two names are the same, and so are the tuples with them.
 abbrev pub are_same : Named → Named → Bool
-are_same one other = pointwise nat_eq one.0 other.0 && pointwise same one.1 other.1
+are_same one other = pointwise nat_eq one.0 other.0 && pointwise same_element one.1 other.1
 
 -- A declared column has this name and this tuple.
 abbrev pub is_named : List ℕ → List Elem → Declared → Bool

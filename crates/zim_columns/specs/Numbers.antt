@@ -2,7 +2,7 @@
 use Rattle.std.specs.Prelude.{ℕ, ◌≡◌, Bool, cond, nat_eq, List, [], ◌∷◌, Option, Some, None, option_and_then}
 use Rattle.std.specs.Cmp.Lexicographic.{pointwise}
 use Rattle.indexmap.specs.IndexMap.{IndexMap, get}
-use Rattle.zim_tuples.specs.Elements.{same}
+use Rattle.zim_tuples.specs.Elements.{same_element}
 use Rattle.zim_tuples.specs.declared.elements.Elem.{Elem}
 use Rattle.zim_columns.specs.declared.numbers.NumberTable.{NumberTable}
 use Rattle.zim_columns.specs.Names.{are_same}
@@ -10,7 +10,7 @@ use Rattle.zim_columns.specs.Names.{are_same}
 module _ {S T : Type 0} where
   -- The number under a name and an index.
   abbrev pub indexed_number : IndexMap (List ℕ) (IndexMap (List Elem) ℕ S) T → List ℕ → List Elem → Option ℕ
-  indexed_number indexed name tuple = option_and_then (λ (numbers : IndexMap (List Elem) ℕ S). get (pointwise same) numbers tuple) (get (pointwise nat_eq) indexed name)
+  indexed_number indexed name tuple = option_and_then (λ (numbers : IndexMap (List Elem) ℕ S). get (pointwise same_element) numbers tuple) (get (pointwise nat_eq) indexed name)
 
   -- The later map has this number under the name and the index, and has all else as it was.
   abbrev pub AssignsIndexedNumber : IndexMap (List ℕ) (IndexMap (List Elem) ℕ S) T → IndexMap (List ℕ) (IndexMap (List Elem) ℕ S) T → List ℕ → List Elem → ℕ → Type 0

@@ -1,10 +1,10 @@
 ghost use Rattle.std.specs.Prelude.{◌≡◌, ◌≤◌, ◌<◌, ◌++◌, None, IfOk, OnOk, map, All};
 ghost use Rattle.zim_rows.specs.System.{Extends};
 ghost use Rattle.zim_rows.specs.Covered.{IsCovered};
-ghost use Rattle.zim_rows.specs.Steps.{given_row, fault_of_kind, IsNewRow};
+ghost use Rattle.zim_rows.specs.Steps.{given_row, fault_here, IsNewRow};
 ghost use Rattle.zim_columns.specs.Names.{column_declared};
 ghost use Rattle.zim_columns.specs.Declaring as exact;
-ghost use Rattle.zim_columns.specs.Declaring.{declaration, side_row, Declares, IsInSystem};
+ghost use Rattle.zim_columns.specs.Declaring.{declaring, side_row, Declares, IsInSystem};
 
 use crate::asks::Ask;
 use crate::bounds::{cross, is_integer, sides_of};
@@ -34,7 +34,7 @@ pub fn declare(
 ) -> Result<(), EncodeFault>
     requires new { column_declared columns.old ask.name ask.tuple ≡ None }
     requires in_system { All (IsInSystem system.old) columns.old }
-    ensures answer { Declares (declaration columns.old system.old from ask) columns.new system.new result }
+    ensures answer { Declares (declaring columns.old system.old from ask) columns.new system.new result }
     ensures extends { OnOk result (Extends system.new system.old) }
     ensures covered { OnOk result (IsCovered system.old → IsCovered system.new) }
     ensures listed { OnOk result (All (IsInSystem system.new) columns.new) }
@@ -56,7 +56,7 @@ pub fn declare(
 
 // The refusal of bounds that cross.
 fn crossed(place: Place) -> EncodeFault
-    ensures { result ≡ EncodeFault.Fault (fault_of_kind Kind.BoundsCross place) }
+    ensures { result ≡ EncodeFault.Fault (fault_here Kind.BoundsCross place) }
 {
     EncodeFault::Fault(Fault {
         place,

@@ -9,7 +9,7 @@ use Rattle.std.proofs.lemmas.List.Splits.{slice_split_at, slice_split_none, leng
 use Rattle.std.proofs.lemmas.List.Elements.{All-cons, All-nil}
 use Rattle.std.proofs.lemmas.Bool.Decides.{nat_tests}
 use Rattle.std.proofs.lemmas.Bool.{and_parts}
-use Rattle.zim_fields.specs.Fields.{Field, is_blank, is_empty, without_empty_end, lines, fields, IsPlainByte, IsField}
+use Rattle.zim_fields.specs.Fields.{Field, is_space_or_tab, is_empty, without_empty_end, lines, fields, IsPlainByte, IsField}
 
 -- No byte of a text ends a line.
 abbrev pub IsInLine : List ℕ → Type 0
@@ -39,7 +39,7 @@ lines-line line rest h =
     ap without_empty_end (slice_split_at (λ b. b == 10) line 10 rest (all_of (λ b. (b == 10) ≡ false) line h) refl)
     ∙ line_part line (slice_split (λ b. b == 10) rest) (omega (arith, length-slice_split (λ b. b == 10) rest))
 
-plain_blanks : (f : Field) → AllByRecursion IsPlainByte f → AllByRecursion (λ b. is_blank b ≡ false) f
+plain_blanks : (f : Field) → AllByRecursion IsPlainByte f → AllByRecursion (λ b. is_space_or_tab b ≡ false) f
 plain_blanks [] h = tt
 plain_blanks (b ∷ f) h = (h.0.blank, plain_blanks f h.1)
 
@@ -55,9 +55,9 @@ IsInLine-append (x ∷ a) b h k = (h.0, IsInLine-append a b h.1 k)
 pub fields-first : (f : Field) (fs : List Field) → IsField f → AllByRecursion IsField fs → fields (f ++ spread fs) ≡ f ∷ fs
 fields-first f [] is all =
     ap fields (append-nil f)
-    ∙ rw (slice_split_none is_blank f (all_of (λ b. is_blank b ≡ false) f (plain_blanks f is.plain)), is.some) refl
+    ∙ rw (slice_split_none is_space_or_tab f (all_of (λ b. is_space_or_tab b ≡ false) f (plain_blanks f is.plain)), is.some) refl
 fields-first f (g ∷ fs) is all =
-    rw (slice_split_at is_blank f 32 (g ++ spread fs) (all_of (λ b. is_blank b ≡ false) f (plain_blanks f is.plain)) refl, is.some)
+    rw (slice_split_at is_space_or_tab f 32 (g ++ spread fs) (all_of (λ b. is_space_or_tab b ≡ false) f (plain_blanks f is.plain)) refl, is.some)
     (ap (λ gs. f ∷ gs) (fields-first g fs all.0 all.1))
 
 pub fields-spread : (fs : List Field) → AllByRecursion IsField fs → fields (spread fs) ≡ fs
@@ -94,7 +94,7 @@ digits_plain (d ∷ ds) digits =
 
 -- a byte is plain, by a test
 abbrev pub is_plain : ℕ → Bool
-is_plain b = not (is_blank b) && not (b == 10)
+is_plain b = not (is_space_or_tab b) && not (b == 10)
 
 by_not : (t : Bool) → not t ≡ true → t ≡ false
 by_not true e = cc
@@ -104,8 +104,8 @@ plain_by_test : (f : Field) → list_all is_plain f ≡ true → AllByRecursion 
 plain_by_test [] h = tt
 plain_by_test (b ∷ f) h =
     let both = and_parts (is_plain b) (list_all is_plain f) h in
-    let byte = and_parts (not (is_blank b)) (not (b == 10)) both.0 in
-    (record { blank = by_not (is_blank b) byte.0; line_end = by_not (b == 10) byte.1 }, plain_by_test f both.1)
+    let byte = and_parts (not (is_space_or_tab b)) (not (b == 10)) both.0 in
+    (record { blank = by_not (is_space_or_tab b) byte.0; line_end = by_not (b == 10) byte.1 }, plain_by_test f both.1)
 
 -- a text is a field, by tests that compute where it is written out
 pub IsField-test : (f : Field) → is_empty f ≡ false → list_all is_plain f ≡ true → IsField f

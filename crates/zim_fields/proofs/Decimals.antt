@@ -24,7 +24,7 @@ not_empty (d ∷ ds) h = refl
 decimal_some : (n : ℕ) → n < 10 ^ 64 → is_empty (decimal n) ≡ false
 decimal_some n h = not_empty (decimal n) (decimal_is_IsNumeral_wide n h).0.0
 
-decimal_digits : (n : ℕ) → n < 10 ^ 64 → all_ascii_digits (decimal n) ≡ true
+pub decimal_digits : (n : ℕ) → n < 10 ^ 64 → all_ascii_digits (decimal n) ≡ true
 decimal_digits n h = own.from (decimal n) (decimal_is_IsNumeral_wide n h).0.1
 
 -- as fields
@@ -87,7 +87,7 @@ decimal_spelled (suc n) h = above_is_spelled (decimal (suc n)) (above_by (suc n)
 
 -- as numbers
 
-count_of-decimal : (n : ℕ) → n < 10 ^ 64 → count_of (decimal n) ≡ Some n
+pub count_of-decimal : (n : ℕ) → n < 10 ^ 64 → count_of (decimal n) ≡ Some n
 count_of-decimal n h = rw (decimal_spelled n h, decimal_digits n h) (ap (λ m. Some m) (decimal_is_IsNumeral_wide n h).1)
 
 other_than_zero : (n : ℕ) → 0 < n → (n == 0) ≡ false

@@ -7,8 +7,8 @@ abbrev pub Field : Type 0
 Field = List ℕ
 
 -- A space or a tab.
-abbrev pub is_blank : ℕ → Bool
-is_blank b = b == 32 || b == 9
+abbrev pub is_space_or_tab : ℕ → Bool
+is_space_or_tab b = b == 32 || b == 9
 
 -- There is no byte.
 abbrev pub is_empty : List ℕ → Bool
@@ -27,11 +27,11 @@ lines text = without_empty_end (slice_split (λ b. b == 10) text)
 
 -- The fields of a line: the longest runs of bytes that are no blanks.
 abbrev pub fields : List ℕ → List Field
-fields line = filter (λ f. not (is_empty f)) (slice_split is_blank line)
+fields line = filter (λ f. not (is_empty f)) (slice_split is_space_or_tab line)
 
 -- A byte that is neither a blank nor a line end.
 pub record IsPlainByte (b : ℕ) : Type 0 where
-  pub blank : is_blank b ≡ false
+  pub blank : is_space_or_tab b ≡ false
   pub line_end : (b == 10) ≡ false
 
 -- One such byte or more.

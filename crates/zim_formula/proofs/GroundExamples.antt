@@ -5,7 +5,7 @@ use Rattle.zim_fault.specs.declared.tokens.Relation.TheVariants.{EqualTo, AtMost
 use Rattle.zim_rational.specs.Gcd.{gcd, euclid}
 use Rattle.zim_rational.specs.Rational.{Rational, zero, whole, ratio, plus, minus, negate, times, over, reciprocal, at_most, same, same_from_parts}
 use Rattle.zim_rational.specs.Rounding.{absolute}
-use Rattle.zim_linear.specs.Forms.{Assignment}
+use Rattle.zim_linear.specs.Forms.{ColumnNumbers}
 use Rattle.zim_formula.specs.Ground.{sum_from, product_from, with_factor, term_number, related, otherwise_holds, constraint_holds}
 use Rattle.zim_formula.specs.declared.ground.GTerm.{GTerm}
 use Rattle.zim_formula.specs.declared.ground.GTerm.TheVariants as term
@@ -18,7 +18,7 @@ here : Place
 here = record { file = 0; line = 1 }
 
 -- columns that are -2 and 1
-abbrev turned : Assignment
+abbrev turned : ColumnNumbers
 turned j = if j == 1 then whole (negsuc 1) else whole (pos 1)
 
 abbrev difference : GTerm
@@ -47,13 +47,13 @@ row =
     (Some (constraint.Compare here AtLeast (term.Column 2) (term.Known (ratio (pos 7) 3))))
 
 -- whether it holds is told by the two columns
-row_holds : (x : Assignment) → constraint_holds x row ≡ (if related EqualTo (x 1) (whole (pos 3)) then related AtMost (x 2) (whole (pos 5)) else related AtLeast (x 2) (ratio (pos 7) 3))
+row_holds : (x : ColumnNumbers) → constraint_holds x row ≡ (if related EqualTo (x 1) (whole (pos 3)) then related AtMost (x 2) (whole (pos 5)) else related AtLeast (x 2) (ratio (pos 7) 3))
 unfolding otherwise_holds
 row_holds x =
     asked-Vif x here _ _ (Some (constraint.Compare here AtLeast (term.Column 2) (term.Known (ratio (pos 7) 3)))) ∙ ap₂ (λ (p : Bool) (q : Bool × Bool). if p then q.0 else q.1) (truth-Compare x here EqualTo _ _ ∙ ap₂ (related EqualTo) (number-Column x 1) (number-Known x (whole (pos 3)))) (ap₂ (λ (p q : Bool). (p, q)) (asked-Compare x here AtMost _ _ ∙ ap₂ (related AtMost) (number-Column x 2) (number-Known x (whole (pos 5)))) (asked-Compare x here AtLeast _ _ ∙ ap₂ (related AtLeast) (number-Column x 2) (number-Known x (ratio (pos 7) 3))))
 
 -- at 3 and 6 it is false
-abbrev past_five : Assignment
+abbrev past_five : ColumnNumbers
 past_five j = if j == 1 then whole (pos 3) else whole (pos 6)
 
 false_computed : (if related EqualTo (past_five 1) (whole (pos 3)) then related AtMost (past_five 2) (whole (pos 5)) else related AtLeast (past_five 2) (ratio (pos 7) 3)) ≡ false
@@ -71,7 +71,7 @@ low_computed = refl
 row_low : constraint_holds turned row ≡ false
 row_low = row_holds turned ∙ low_computed
 
-abbrev fits : Assignment
+abbrev fits : ColumnNumbers
 fits j = if j == 1 then whole (pos 0) else ratio (pos 5) 2
 
 true_computed : (if related EqualTo (fits 1) (whole (pos 3)) then related AtMost (fits 2) (whole (pos 5)) else related AtLeast (fits 2) (ratio (pos 7) 3)) ≡ true

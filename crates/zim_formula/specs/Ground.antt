@@ -7,7 +7,7 @@ use Rattle.zim_fault.specs.declared.tokens.Join.{Join}
 use Rattle.zim_fault.specs.declared.tokens.Join.TheVariants.{And, Or, Xor}
 use Rattle.zim_rational.specs.Rational.{Rational, plus, minus, negate, times, over, total, at_most, below, same}
 use Rattle.zim_rational.specs.Rounding.{absolute}
-use Rattle.zim_linear.specs.Forms.{Assignment}
+use Rattle.zim_linear.specs.Forms.{ColumnNumbers}
 use Rattle.zim_formula.specs.declared.ground.GTerm.{GTerm, GTerm-F, fold-GTerm}
 use Rattle.zim_formula.specs.declared.ground.GCond.{GCond, GCond-F, fold-GCond}
 use Rattle.zim_formula.specs.declared.ground.GCon.{GCon, GCon-F, fold-GCon}
@@ -28,7 +28,7 @@ with_factor None v = v
 with_factor (Some factor) v = times factor.0 v
 
 -- the number of a term whose parts are their numbers
-abbrev pub term_step : Assignment → GTerm-F Rational → Rational
+abbrev pub term_step : ColumnNumbers → GTerm-F Rational → Rational
 term_step x (GTerm-F.Known q) = q
 term_step x (GTerm-F.Column j) = x j
 term_step x (GTerm-F.Sum first others) = sum_from first others
@@ -38,7 +38,7 @@ term_step x (GTerm-F.SumOver place terms) = total terms
 term_step x (GTerm-F.Abs place term) = absolute term
 
 -- the number of a term where each column is what the assignment says
-abbrev pub term_number : Assignment → GTerm → Rational
+abbrev pub term_number : ColumnNumbers → GTerm → Rational
 term_number x = fold-GTerm Rational (term_step x)
 
 -- whether two numbers stand in a relation
@@ -51,25 +51,25 @@ related AtLeast a b = at_most b a
 related GreaterThan a b = below b a
 
 -- two truth values joined; `xor` is true where they differ
-unfoldable pub joined : Join → Bool → Bool → Bool
-joined And p q = p && q
-joined Or p q = p || q
-joined Xor p q = if p then not q else q
+unfoldable pub joined_truths : Join → Bool → Bool → Bool
+joined_truths And p q = p && q
+joined_truths Or p q = p || q
+joined_truths Xor p q = if p then not q else q
 
 -- truth values joined to a first one, from the left
 unfoldable pub chain_from : Bool → List (Place × Join × Bool) → Bool
 chain_from truth [] = truth
-chain_from truth (c ∷ cs) = chain_from (joined c.1 truth c.2) cs
+chain_from truth (c ∷ cs) = chain_from (joined_truths c.1 truth c.2) cs
 
 -- the truth of a condition whose parts are their truth values
-abbrev pub condition_step : Assignment → GCond-F Bool → Bool
+abbrev pub condition_step : ColumnNumbers → GCond-F Bool → Bool
 condition_step x (GCond-F.Known truth) = truth
 condition_step x (GCond-F.Compare place relation left right) = related relation (term_number x left) (term_number x right)
 condition_step x (GCond-F.Chain first others) = chain_from first others
 condition_step x (GCond-F.Not place operand) = not operand
 
 -- whether a condition is true at an assignment
-abbrev pub condition_holds : Assignment → GCond → Bool
+abbrev pub condition_holds : ColumnNumbers → GCond → Bool
 condition_holds x = fold-GCond Bool (condition_step x)
 
 -- whether all are true
@@ -83,12 +83,12 @@ otherwise_holds None = true
 otherwise_holds (Some p) = p
 
 -- the truth of a constraint whose parts are their truth values; a `vif` asks the part that its condition picks
-abbrev pub constraint_step : Assignment → GCon-F Bool → Bool
+abbrev pub constraint_step : ColumnNumbers → GCon-F Bool → Bool
 constraint_step x (GCon-F.Compare place relation left right) = related relation (term_number x left) (term_number x right)
 constraint_step x (GCon-F.Range place relation first term last) = related relation first (term_number x term) && related relation (term_number x term) last
 constraint_step x (GCon-F.And parts) = all_hold parts
 constraint_step x (GCon-F.Vif place test first otherwise) = if condition_holds x test then first else otherwise_holds otherwise
 
 -- whether a constraint is true at an assignment
-abbrev pub constraint_holds : Assignment → GCon → Bool
+abbrev pub constraint_holds : ColumnNumbers → GCon → Bool
 constraint_holds x = fold-GCon Bool (constraint_step x)

@@ -4,7 +4,7 @@ use Rattle.std.specs.Prelude.{find}
 use Rattle.std.specs.Cmp.Lexicographic.{pointwise}
 use Rattle.std.specs.List.{AllByRecursion, IsDistinct}
 use Rattle.std.specs.Map.{keys_of, values_of, lookup}
-use Rattle.zim_functions.specs.Definitions.{defined, names_of, AreKept}
+use Rattle.zim_functions.specs.Definitions.{defined, defined_names, AreKept}
 use Rattle.zim_functions.specs.declared.definitions.Definition.{Definition}
 
 -- what is found by a name that passes the test is the first definition whose name passes it
@@ -12,7 +12,7 @@ pub found : (test : List ℕ → Bool) (kept : List (List ℕ × Definition)) �
 found test [] named = refl
 found test (entry ∷ kept) named = λ i. cond (test (named.0 i)) (Some entry.1) (found test kept named.1 i)
 
-pub keys : (kept : List (List ℕ × Definition)) → AllByRecursion (λ (entry : List ℕ × Definition). entry.0 ≡ entry.1.name) kept → keys_of kept ≡ names_of (values_of kept)
+pub keys : (kept : List (List ℕ × Definition)) → AllByRecursion (λ (entry : List ℕ × Definition). entry.0 ≡ entry.1.name) kept → keys_of kept ≡ defined_names (values_of kept)
 keys [] named = refl
 keys (entry ∷ kept) named = λ i. named.0 i ∷ keys kept named.1 i
 

@@ -10,12 +10,12 @@ unfoldable pub defined : List Definition → List ℕ → Option Definition
 defined definitions name = find (λ definition. pointwise nat_eq name definition.name) definitions
 
 -- the names that are defined, in order
-abbrev pub names_of : List Definition → List (List ℕ)
-names_of definitions = map (λ definition. definition.name) definitions
+abbrev pub defined_names : List Definition → List (List ℕ)
+defined_names definitions = map (λ definition. definition.name) definitions
 
 -- no name is defined twice
 abbrev pub AreNamesDistinct : List Definition → Type 0
-AreNamesDistinct definitions = IsDistinct (pointwise nat_eq) (names_of definitions)
+AreNamesDistinct definitions = IsDistinct (pointwise nat_eq) (defined_names definitions)
 
 -- ---- for the type's invariant alone
 

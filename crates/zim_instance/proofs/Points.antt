@@ -5,7 +5,7 @@ use Rattle.std.specs.Str.{bytes_eq}
 use Rattle.std.proofs.lemmas.Slice.Eq.{bytes_eq-Decides}
 use mathlib.Core.Path.{fun_ext}
 use Rattle.zim_rational.specs.Rational.{Rational, zero}
-use Rattle.zim_instance.specs.Instance.{Column, Instance, Point, KeepsColumn, KeepsName, KeepsRow, IsPoint, number_at}
+use Rattle.zim_instance.specs.Instance.{Column, Instance, Point, KeepsNamedColumn, KeepsName, KeepsRow, IsInstancePoint, number_named}
 use Rattle.zim_instance.specs.System.{NamedColumn, System, column_named, HasDistinctNames, Says, numbers_of, point_of, KeepsColumns, IsSolution}
 
 -- the column and the number that a name has in the two lists keep each other
@@ -17,14 +17,14 @@ KeepsName-point_of (c ∷ cs) (q ∷ qs) k name =
     elim (bytes_eq name c.name) as (λ b. KeepsName (cond b (Some c.column) (column_named cs name)) (cond b (Some q) (point_of cs qs name))) [ true ↦ k.0 | false ↦ KeepsName-point_of cs qs k.1 name ]
 
 -- a solution of the system is a point of the instance
-pub IsPoint-point_of : (i : Instance) (s : System) (qs : List Rational) → Says i s → IsSolution s qs → IsPoint i (point_of s.columns qs)
+pub IsPoint-point_of : (i : Instance) (s : System) (qs : List Rational) → Says i s → IsSolution s qs → IsInstancePoint i (point_of s.columns qs)
 IsPoint-point_of i s qs says k = record {
   columns = λ name. rw (says.columns name) (KeepsName-point_of s.columns qs k.columns name);
   rows = (says.rows (point_of s.columns qs)).1 k.rows;
 }
 
 -- a number that stands beside a column
-some_kept : (c : Column) (o : Option Rational) → KeepsName (Some c) o → (o ≡ Some (unwrap_or o zero)) × KeepsColumn c (unwrap_or o zero)
+some_kept : (c : Column) (o : Option Rational) → KeepsName (Some c) o → (o ≡ Some (unwrap_or o zero)) × KeepsNamedColumn c (unwrap_or o zero)
 some_kept c None k = absurd k
 some_kept c (Some q) k = (refl, k)
 
@@ -54,7 +54,7 @@ column_named-later c cs name e = rw e
 point_of-first : (c : NamedColumn) (cs : List NamedColumn) (p : Point) (name : List ℕ) (t : Bool) → bytes_eq name c.name ≡ t → (KeepsName (column_named cs name) (p name) → p name ≡ point_of cs (numbers_of p cs) name) → KeepsName (column_named (c ∷ cs) name) (p name) → p name ≡ point_of (c ∷ cs) (numbers_of p (c ∷ cs)) name
 point_of-first c cs p name true e later k =
     let kept : KeepsName (Some c.column) (p name) = rw e at k in
-    rw e ((some_kept c.column (p name) kept).0 ∙ ap (λ n. Some (number_at p n)) (same-bytes_eq name c.name e))
+    rw e ((some_kept c.column (p name) kept).0 ∙ ap (λ n. Some (number_named p n)) (same-bytes_eq name c.name e))
 point_of-first c cs p name false e later k =
     let kept : KeepsName (column_named cs name) (p name) = rw e at k in
     rw e (later kept)
@@ -102,7 +102,7 @@ numbers_of-point_of (c ∷ cs) (q ∷ qs) distinct k =
     rw (bytes_eq-same c.name) (ap (λ rest. q ∷ rest) (numbers_later c cs q qs cs distinct.0 ∙ numbers_of-point_of cs qs distinct.1 k.1))
 
 -- the numbers of a point solve the system that its instance says
-pub IsSolution-numbers_of : (i : Instance) (s : System) (p : Point) → Says i s → HasDistinctNames s.columns → IsPoint i p → IsSolution s (numbers_of p s.columns)
+pub IsSolution-numbers_of : (i : Instance) (s : System) (p : Point) → Says i s → HasDistinctNames s.columns → IsInstancePoint i p → IsSolution s (numbers_of p s.columns)
 IsSolution-numbers_of i s p says distinct k =
     let kept : (name : List ℕ) → KeepsName (column_named s.columns name) (p name) = λ name. rw (says.columns name) at (k.columns name) in
     let same : p ≡ point_of s.columns (numbers_of p s.columns) = fun_ext (λ name. point_of-numbers_of s.columns p name (kept name)) in
@@ -112,6 +112,6 @@ IsSolution-numbers_of i s p says distinct k =
     }
 
 -- a point of an instance is the point of its numbers, so two points with the same numbers are one
-pub IsPoint-is_point_of : (i : Instance) (s : System) (p : Point) → Says i s → IsPoint i p → p ≡ point_of s.columns (numbers_of p s.columns)
+pub IsPoint-is_point_of : (i : Instance) (s : System) (p : Point) → Says i s → IsInstancePoint i p → p ≡ point_of s.columns (numbers_of p s.columns)
 IsPoint-is_point_of i s p says k =
     fun_ext (λ name. point_of-numbers_of s.columns p name (rw (says.columns name) at (k.columns name)))

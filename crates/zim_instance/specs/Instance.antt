@@ -10,13 +10,13 @@ pub record Column : Type 0 where
   pub upper : Option Rational
 
 -- A coefficient and the name of the column that it multiplies.
-pub record Term : Type 0 where
+pub record NamedTerm : Type 0 where
   pub name : List ℕ
   pub coefficient : Rational
 
 -- A row: the sum of its terms lies between its ends, as far as it has them.
 pub record Row : Type 0 where
-  pub terms : List Term
+  pub terms : List NamedTerm
   pub low : Option Rational
   pub high : Option Rational
 
@@ -24,7 +24,7 @@ pub record Row : Type 0 where
 pub record Instance : Type 0 where
   pub column : List ℕ → Option Column
   pub rows : List Row
-  pub objective : List Term
+  pub objective : List NamedTerm
   pub maximises : Bool
 
 -- A point: a number for each of some names.
@@ -42,7 +42,7 @@ IsUpTo None _ = ⊤
 IsUpTo (Some high) q = IsAtMost q high
 
 -- A number lies between a column's ends, and is whole where the column is integer.
-pub record KeepsColumn (column : Column) (q : Rational) : Type 0 where
+pub record KeepsNamedColumn (column : Column) (q : Rational) : Type 0 where
   pub lower : IsFrom column.lower q
   pub upper : IsUpTo column.upper q
   pub mark : column.integer ≡ true → IsTrue (is_whole q)
@@ -52,26 +52,26 @@ abbrev pub KeepsName : Option Column → Option Rational → Type 0
 KeepsName None None = ⊤
 KeepsName None (Some _) = ⊥
 KeepsName (Some _) None = ⊥
-KeepsName (Some column) (Some q) = KeepsColumn column q
+KeepsName (Some column) (Some q) = KeepsNamedColumn column q
 
 -- The number that a point gives to a name.
-abbrev pub number_at : Point → List ℕ → Rational
-number_at point name = unwrap_or (point name) zero
+abbrev pub number_named : Point → List ℕ → Rational
+number_named point name = unwrap_or (point name) zero
 
 -- The sum of a list's terms at a point. Terms of one name add up.
-abbrev pub sum_at : Point → List Term → Rational
-sum_at point terms = total (map (λ t. times t.coefficient (number_at point t.name)) terms)
+abbrev pub sum_of_named : Point → List NamedTerm → Rational
+sum_of_named point terms = total (map (λ t. times t.coefficient (number_named point t.name)) terms)
 
 -- The sum of a row's terms at a point lies between the row's ends.
 pub record KeepsRow (point : Point) (row : Row) : Type 0 where
-  pub low : IsFrom row.low (sum_at point row.terms)
-  pub high : IsUpTo row.high (sum_at point row.terms)
+  pub low : IsFrom row.low (sum_of_named point row.terms)
+  pub high : IsUpTo row.high (sum_of_named point row.terms)
 
 -- A point of an instance: a number for each column and for nothing else, that keeps all ends, marks and rows.
-pub record IsPoint (instance : Instance) (point : Point) : Type 0 where
+pub record IsInstancePoint (instance : Instance) (point : Point) : Type 0 where
   pub columns : (name : List ℕ) → KeepsName (instance.column name) (point name)
   pub rows : AllByRecursion (KeepsRow point) instance.rows
 
 -- The objective of an instance at a point.
-abbrev pub objective_at : Instance → Point → Rational
-objective_at instance point = sum_at point instance.objective
+abbrev pub instance_objective : Instance → Point → Rational
+instance_objective instance point = sum_of_named point instance.objective

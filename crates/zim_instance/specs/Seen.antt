@@ -1,7 +1,7 @@
 -- What can be written out of an instance: its parts with each number by its numerator and its denominator.
 use Rattle.std.specs.Prelude.{ℕ, ℤ, Bool, List, map, Option, option_map}
 use Rattle.zim_rational.specs.Rational.{Rational}
-use Rattle.zim_instance.specs.Instance.{Column, Term, Row, Instance}
+use Rattle.zim_instance.specs.Instance.{Column, NamedTerm, Row, Instance}
 
 -- A number by its numerator and its denominator in lowest terms.
 abbrev pub Number : Type 0
@@ -22,7 +22,7 @@ abbrev pub column_seen : Column → ColumnSeen
 column_seen column = record { integer = column.integer; lower = option_map number_seen column.lower; upper = option_map number_seen column.upper }
 
 -- The name and the coefficient of a term.
-abbrev pub term_seen : Term → List ℕ × Number
+abbrev pub term_seen : NamedTerm → List ℕ × Number
 term_seen term = (term.name, number_seen term.coefficient)
 
 -- A row's terms and ends.

@@ -3,7 +3,7 @@ use Rattle.std.specs.Prelude.{◌≡◌, ◌↔◌, ℕ, Bool, false, if◌then�
 use Rattle.std.specs.List.{AllByRecursion}
 use Rattle.std.specs.Str.{bytes_eq}
 use Rattle.zim_rational.specs.Rational.{Rational}
-use Rattle.zim_instance.specs.Instance.{Column, Term, Row, Instance, Point, KeepsColumn, KeepsRow, number_at, sum_at}
+use Rattle.zim_instance.specs.Instance.{Column, NamedTerm, Row, Instance, Point, KeepsNamedColumn, KeepsRow, number_named, sum_of_named}
 
 -- A column with its name.
 pub record NamedColumn : Type 0 where
@@ -14,7 +14,7 @@ pub record NamedColumn : Type 0 where
 pub record System : Type 0 where
   pub columns : List NamedColumn
   pub rows : List Row
-  pub objective : List Term
+  pub objective : List NamedTerm
   pub maximises : Bool
 
 -- The column that has the name, if one has.
@@ -32,12 +32,12 @@ HasDistinctNames (c ∷ cs) = AllByRecursion (λ (d : NamedColumn). bytes_eq c.n
 pub record Says (instance : Instance) (system : System) : Type 0 where
   pub columns : (name : List ℕ) → instance.column name ≡ column_named system.columns name
   pub rows : (point : Point) → AllByRecursion (KeepsRow point) instance.rows ↔ AllByRecursion (KeepsRow point) system.rows
-  pub objective : (point : Point) → sum_at point instance.objective ≡ sum_at point system.objective
+  pub objective : (point : Point) → sum_of_named point instance.objective ≡ sum_of_named point system.objective
   pub maximises : instance.maximises ≡ system.maximises
 
 -- The numbers that a point gives to the columns, in their order.
 abbrev pub numbers_of : Point → List NamedColumn → List Rational
-numbers_of point columns = map (λ (c : NamedColumn). number_at point c.name) columns
+numbers_of point columns = map (λ (c : NamedColumn). number_named point c.name) columns
 
 -- The point that gives the numbers of a list to the columns in their order.
 abbrev pub point_of : List NamedColumn → List Rational → Point
@@ -50,7 +50,7 @@ abbrev pub KeepsColumns : List NamedColumn → List Rational → Type 0
 KeepsColumns [] [] = ⊤
 KeepsColumns [] (_ ∷ _) = ⊥
 KeepsColumns (_ ∷ _) [] = ⊥
-KeepsColumns (c ∷ cs) (q ∷ qs) = KeepsColumn c.column q × KeepsColumns cs qs
+KeepsColumns (c ∷ cs) (q ∷ qs) = KeepsNamedColumn c.column q × KeepsColumns cs qs
 
 -- The numbers keep all ends, marks and rows of the system.
 pub record IsSolution (system : System) (numbers : List Rational) : Type 0 where

@@ -5,17 +5,17 @@ use Rattle.zim_rational.specs.Rational.{Rational, zero, plus, times, total, same
 use Rattle.zim_rational.proofs.Whole.{same_Decides}
 use Rattle.std.proofs.lemmas.Bool.{cases_Bool, both_ways}
 use Rattle.zim_rational.proofs.Sums.{total_append}
-use Rattle.zim_linear.specs.Forms.{Term, AreColumns, Assignment, sum_at}
+use Rattle.zim_linear.specs.Forms.{Term, AreColumns, ColumnNumbers, sum_at}
 
-pub sum_at_none : (x : Assignment) → sum_at x [] ≡ zero
+pub sum_at_none : (x : ColumnNumbers) → sum_at x [] ≡ zero
 unfolding sum_at total
 sum_at_none x = refl
 
-pub sum_at_more : (x : Assignment) (t : Term) (ts : List Term) → sum_at x (t ∷ ts) ≡ plus (times t.1 (x t.0)) (sum_at x ts)
+pub sum_at_more : (x : ColumnNumbers) (t : Term) (ts : List Term) → sum_at x (t ∷ ts) ≡ plus (times t.1 (x t.0)) (sum_at x ts)
 unfolding sum_at total
 sum_at_more x t ts = refl
 
-pub sum_at_append : (x : Assignment) (ss ts : List Term) → sum_at x (ss ++ ts) ≡ plus (sum_at x ss) (sum_at x ts)
+pub sum_at_append : (x : ColumnNumbers) (ss ts : List Term) → sum_at x (ss ++ ts) ≡ plus (sum_at x ss) (sum_at x ts)
 unfolding sum_at
 sum_at_append x ss ts =
     ap total (map-append (λ (t : Term). times t.1 (x t.0)) ss ts) ∙ total_append (map (λ (t : Term). times t.1 (x t.0)) ss) (map (λ (t : Term). times t.1 (x t.0)) ts)

@@ -3,13 +3,13 @@ use Rattle.std.proofs.Common.{ℕ, suc, ◌≡◌, ◌≢◌, ◌≤◌, ◌<◌
 use Rattle.zim_fraction.specs.Limit.{is_sum_within}
 use Rattle.zim_rational.specs.Rational.{Rational, zero, plus, times}
 use Rattle.zim_rational.proofs.Ring.{zero_plus, plus_zero, plus_assoc, plus_left_comm, plus_times, zero_times}
-use Rattle.zim_linear.specs.Forms.{Term, Assignment, sum_at, AreTermsFrom, AreTerms, AreColumns}
+use Rattle.zim_linear.specs.Forms.{Term, ColumnNumbers, sum_at, AreTermsFrom, AreTerms, AreColumns}
 use Rattle.zim_linear.specs.Sums.{HasSumWithin, HaveSumsWithin, IsMerged, PushesSum}
 use Rattle.zim_linear.proofs.FormLaws.{columns_append, same_or_other, sum_at_none, sum_at_more, sum_at_append}
 
 -- of two lists, some terms are merged, and two rests are left
 pub record IsMerging (xs ys made left right : List Term) : Type 0 where
-  pub number : (x : Assignment) → plus (sum_at x made) (plus (sum_at x left) (sum_at x right)) ≡ plus (sum_at x xs) (sum_at x ys)
+  pub number : (x : ColumnNumbers) → plus (sum_at x made) (plus (sum_at x left) (sum_at x right)) ≡ plus (sum_at x xs) (sum_at x ys)
   pub bound : ℕ
   pub joins : (rest : List Term) → AreTermsFrom bound rest → AreTerms (made ++ rest)
   pub left_terms : AreTermsFrom bound left
@@ -58,7 +58,7 @@ moved_both : (a s t l r : Rational) → plus (plus a (plus (plus s t) zero)) (pl
 moved_both a s t l r =
     ap (λ n. plus (plus a n) (plus l r)) (plus_zero (plus s t)) ∙ plus_assoc a (plus s t) (plus l r) ∙ ap (plus a) (plus_assoc s t (plus l r) ∙ ap (plus s) (plus_left_comm t l r) ∙ sym (plus_assoc s l (plus t r)))
 
-pub one_more : (x : Assignment) (made : List Term) (t : Term) → sum_at x (made ++ t ∷ []) ≡ plus (sum_at x made) (plus (times t.1 (x t.0)) zero)
+pub one_more : (x : ColumnNumbers) (made : List Term) (t : Term) → sum_at x (made ++ t ∷ []) ≡ plus (sum_at x made) (plus (times t.1 (x t.0)) zero)
 one_more x made t =
     sum_at_append x made (t ∷ []) ∙ ap (plus (sum_at x made)) (sum_at_more x t [] ∙ ap (plus (times t.1 (x t.0))) (sum_at_none x))
 
@@ -113,7 +113,7 @@ same_column left right s t p q e within =
     (λ h. ((λ _. within, no_column s right (suc t.0) (omega arith) q), rest.0 h), λ h. rest.1 h.1)
 
 -- the coefficients' sum at an assignment
-both_times : (x : Assignment) (s t : Term) → s.0 ≡ t.0 → times (plus s.1 t.1) (x s.0) ≡ plus (times s.1 (x s.0)) (times t.1 (x t.0))
+both_times : (x : ColumnNumbers) (s t : Term) → s.0 ≡ t.0 → times (plus s.1 t.1) (x s.0) ≡ plus (times s.1 (x s.0)) (times t.1 (x t.0))
 both_times x s t e =
     plus_times s.1 t.1 (x s.0) ∙ ap (λ j. plus (times s.1 (x s.0)) (times t.1 (x j))) e
 

@@ -2,7 +2,7 @@
 use Rattle.std.proofs.Common.{ℕ, suc, ◌≡◌, ◌≢◌, List, [], ◌∷◌, Result, Ok, Err, ap, ap₂, ◌∙◌, sym, subst}
 use Rattle.zim_rational.specs.Rational.{Rational, zero, plus, negate, times, total}
 use Rattle.zim_rational.proofs.Ring.{negate_times, negate_negate, negate_zero, negate_plus, minus_is}
-use Rattle.zim_linear.specs.Forms.{Term, LinearForm, Assignment, sum_at, number_at, AreTermsFrom, AreColumns}
+use Rattle.zim_linear.specs.Forms.{Term, LinearForm, ColumnNumbers, sum_at, number_at, AreTermsFrom, AreColumns}
 use Rattle.zim_linear.specs.Answers.{FormAnswer}
 use Rattle.zim_linear.specs.Sums.{IsSumWithin, IsSumOf, IsDifferenceWithin, IsDifferenceOf, negated_terms, negated_form}
 use Rattle.zim_linear.specs.declared.faults.LinFault.{LinFault}
@@ -19,13 +19,13 @@ negated_columns : (n : ℕ) (ts : List Term) → AreColumns n ts → AreColumns 
 negated_columns n [] p = tt
 negated_columns n (t ∷ ts) p = (p.0, p.1, negated_columns n ts p.2)
 
-sum_at_negated : (x : Assignment) (ts : List Term) → sum_at x (negated_terms ts) ≡ negate (sum_at x ts)
+sum_at_negated : (x : ColumnNumbers) (ts : List Term) → sum_at x (negated_terms ts) ≡ negate (sum_at x ts)
 unfolding sum_at total
 sum_at_negated x [] = sym negate_zero
 sum_at_negated x (t ∷ ts) =
     ap₂ plus (negate_times t.1 (x t.0)) (sum_at_negated x ts) ∙ sym (negate_plus (times t.1 (x t.0)) (sum_at x ts))
 
-pub number_negated : (x : Assignment) (b : LinearForm) → number_at x (negated_form b) ≡ negate (number_at x b)
+pub number_negated : (x : ColumnNumbers) (b : LinearForm) → number_at x (negated_form b) ≡ negate (number_at x b)
 unfolding number_at
 number_negated x b =
     ap (λ n. plus n (negate b.constant)) (sum_at_negated x b.terms) ∙ sym (negate_plus (sum_at x b.terms) b.constant)

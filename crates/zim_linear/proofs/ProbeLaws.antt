@@ -3,15 +3,15 @@ use Rattle.std.proofs.Common.{ℕ, suc, ◌≡◌, ◌≢◌, ◌<◌, ◌≤◌
 use Rattle.std.proofs.lemmas.Bool.{eqb-true, eq-eqb}
 use Rattle.zim_rational.specs.Rational.{Rational, zero, one, plus, minus, times}
 use Rattle.zim_rational.proofs.Ring.{zero_plus, plus_zero, plus_comm, plus_minus, times_one, times_zero}
-use Rattle.zim_linear.specs.Forms.{Term, Assignment, AreTermsFrom, sum_at}
+use Rattle.zim_linear.specs.Forms.{Term, ColumnNumbers, AreTermsFrom, sum_at}
 use Rattle.zim_linear.proofs.FormLaws.{sum_at_none, sum_at_more}
 
 -- 1 at one column and 0 at the others
-unfoldable pub only : ℕ → Assignment
+unfoldable pub only : ℕ → ColumnNumbers
 only j i = cond (nat_eq i j) one zero
 
 -- 0 at all columns
-unfoldable pub nowhere : Assignment
+unfoldable pub nowhere : ColumnNumbers
 nowhere i = zero
 
 only_there : (j : ℕ) → only j j ≡ one
@@ -45,6 +45,6 @@ sum_first n t ts terms =
     sum_at_more (only t.0) t ts ∙ ap₂ plus (ap (times t.1) (only_there t.0) ∙ times_one t.1) (sum_below t.0 (suc t.0) ts (omega arith) terms.2) ∙ plus_zero t.1
 
 -- what the other terms come to
-pub sum_rest : (x : Assignment) (t : Term) (ts : List Term) → minus (sum_at x (t ∷ ts)) (times t.1 (x t.0)) ≡ sum_at x ts
+pub sum_rest : (x : ColumnNumbers) (t : Term) (ts : List Term) → minus (sum_at x (t ∷ ts)) (times t.1 (x t.0)) ≡ sum_at x ts
 sum_rest x t ts =
     ap (λ (n : Rational). minus n (times t.1 (x t.0))) (sum_at_more x t ts ∙ plus_comm (times t.1 (x t.0)) (sum_at x ts)) ∙ plus_minus (sum_at x ts) (times t.1 (x t.0))

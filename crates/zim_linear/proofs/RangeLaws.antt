@@ -9,8 +9,8 @@ use Rattle.zim_rational.specs.Rational.{Rational, zero, plus, times, IsAtMost}
 use Rattle.zim_rational.proofs.Fraction.{at_most-is, own-parts, zero_fraction, fraction-is, denom-pos, IsFraction}
 use Rattle.zim_rational.proofs.Ring.{plus_zero, plus_assoc, zero_plus}
 use Rattle.zim_rational.proofs.Order.{at_most_refl, at_most_trans, plus_at_most, times_at_most, times_turns}
-use Rattle.zim_linear.specs.Forms.{Term, Assignment, sum_at}
-use Rattle.zim_linear.specs.Ends.{sides_at, IsBetween, AreBetween, counted, side_of, has_end, and_then, at_side, end_from, end_answer}
+use Rattle.zim_linear.specs.Forms.{Term, ColumnNumbers, sum_at}
+use Rattle.zim_linear.specs.Ends.{sides_at, IsBetween, AreBetween, counted, side_of, has_end, with_sum, at_side, end_from, end_answer}
 use Rattle.zim_linear.specs.declared.sides.Sides.{Sides}
 use Rattle.zim_linear.specs.declared.sides.End.{End}
 use Rattle.zim_linear.specs.declared.sides.End.TheVariants.{Least, Greatest}
@@ -63,7 +63,7 @@ at_side_some : (o : Option Rational) (next : Rational → Result (Option Rationa
 at_side_some (Some side) next l e = (side, refl, e)
 at_side_some None next l e = absurd (cc)
 
-and_then_ok : (r : Result Rational Past) (next : Rational → Result (Option Rational) Past) (l : Rational) → and_then r next ≡ Ok (Some l) → (q : Rational) × (Ok q ≡ r) × (next q ≡ Ok (Some l))
+and_then_ok : (r : Result Rational Past) (next : Rational → Result (Option Rational) Past) (l : Rational) → with_sum r next ≡ Ok (Some l) → (q : Rational) × (Ok q ≡ r) × (next q ≡ Ok (Some l))
 and_then_ok (Ok q) next l e = (q, refl, e)
 and_then_ok (Err p) next l e = absurd (cc)
 
@@ -85,12 +85,12 @@ step_of end sides sum t ts l e =
       rest = subst (λ (q : Rational). end_from end sides q ts ≡ Ok (Some l)) (sum_value sum b.0 d.0 d.1 ∙ ap (plus sum) (product_value t.1 a.0 b.0 b.1)) d.2;
     }
 
-regroup : (x : Assignment) (sum : Rational) (t : Term) (ts : List Term) → plus (plus sum (times t.1 (x t.0))) (sum_at x ts) ≡ plus sum (sum_at x (t ∷ ts))
+regroup : (x : ColumnNumbers) (sum : Rational) (t : Term) (ts : List Term) → plus (plus sum (times t.1 (x t.0))) (sum_at x ts) ≡ plus sum (sum_at x (t ∷ ts))
 regroup x sum t ts = plus_assoc sum (times t.1 (x t.0)) (sum_at x ts) ∙ ap (plus sum) (sym (sum_at_more x t ts))
 
 -- ---- the whole list
 
-above_least : (sides : List Sides) (ts : List Term) (sum l : Rational) (x : Assignment) → AreBetween x sides ts → end_from Least sides sum ts ≡ Ok (Some l) → IsAtMost l (plus sum (sum_at x ts))
+above_least : (sides : List Sides) (ts : List Term) (sum l : Rational) (x : ColumnNumbers) → AreBetween x sides ts → end_from Least sides sum ts ≡ Ok (Some l) → IsAtMost l (plus sum (sum_at x ts))
 unfolding end_from
 above_least sides [] sum l x between e =
     let same : sum ≡ l = cc in
@@ -107,7 +107,7 @@ above_least sides (t ∷ ts) sum l x between e =
     (regroup x sum t ts)
     (plus_at_most _ _ _ _ (plus_at_most _ _ _ _ (at_most_refl sum) (least_product t.1 step.side (x t.0) (sides_at sides t.0) (int_lt t.1.numer (pos 0)) refl step.is between.0)) (at_most_refl (sum_at x ts))))
 
-below_greatest : (sides : List Sides) (ts : List Term) (sum l : Rational) (x : Assignment) → AreBetween x sides ts → end_from Greatest sides sum ts ≡ Ok (Some l) → IsAtMost (plus sum (sum_at x ts)) l
+below_greatest : (sides : List Sides) (ts : List Term) (sum l : Rational) (x : ColumnNumbers) → AreBetween x sides ts → end_from Greatest sides sum ts ≡ Ok (Some l) → IsAtMost (plus sum (sum_at x ts)) l
 unfolding end_from
 below_greatest sides [] sum l x between e =
     let same : sum ≡ l = cc in
@@ -133,18 +133,18 @@ unfolding end_answer
 finite end sides terms l e =
     finite_by (has_end end sides terms) (end_from end sides zero terms) l e
 
-low_end : (sides : List Sides) (terms : List Term) (o : Option Rational) (x : Assignment) → AreBetween x sides terms → end_answer Least sides terms ≡ Ok o → IfSome o (λ l. IsAtMost l (sum_at x terms))
+low_end : (sides : List Sides) (terms : List Term) (o : Option Rational) (x : ColumnNumbers) → AreBetween x sides terms → end_answer Least sides terms ≡ Ok o → IfSome o (λ l. IsAtMost l (sum_at x terms))
 low_end sides terms None x between e = tt
 low_end sides terms (Some l) x between e =
     subst (IsAtMost l) (zero_plus (sum_at x terms)) (above_least sides terms zero l x between (finite Least sides terms l e))
 
-high_end : (sides : List Sides) (terms : List Term) (o : Option Rational) (x : Assignment) → AreBetween x sides terms → end_answer Greatest sides terms ≡ Ok o → IfSome o (λ h. IsAtMost (sum_at x terms) h)
+high_end : (sides : List Sides) (terms : List Term) (o : Option Rational) (x : ColumnNumbers) → AreBetween x sides terms → end_answer Greatest sides terms ≡ Ok o → IfSome o (λ h. IsAtMost (sum_at x terms) h)
 high_end sides terms None x between e = tt
 high_end sides terms (Some h) x between e =
     subst (λ (q : Rational). IsAtMost q h) (zero_plus (sum_at x terms)) (below_greatest sides terms zero h x between (finite Greatest sides terms h e))
 
 -- the ends that are answered are kept
-pub ends_kept : (sides : List Sides) (terms : List Term) (ends : Sides) → end_answer Least sides terms ≡ Ok ends.low → end_answer Greatest sides terms ≡ Ok ends.high → (x : Assignment) → AreBetween x sides terms → IsBetween ends (sum_at x terms)
+pub ends_kept : (sides : List Sides) (terms : List Term) (ends : Sides) → end_answer Least sides terms ≡ Ok ends.low → end_answer Greatest sides terms ≡ Ok ends.high → (x : ColumnNumbers) → AreBetween x sides terms → IsBetween ends (sum_at x terms)
 ends_kept sides terms ends e f x between = record {
   low = low_end sides terms ends.low x between e;
   high = high_end sides terms ends.high x between f;

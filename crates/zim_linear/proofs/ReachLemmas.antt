@@ -5,7 +5,7 @@ use Rattle.std.proofs.lemmas.Bool.{eqb-true, eq-eqb}
 use Rattle.zim_rational.specs.Rational.{Rational, zero, plus, times, IsAtMost}
 use Rattle.zim_rational.proofs.Ring.{plus_zero, plus_assoc, zero_plus}
 use Rattle.zim_rational.proofs.Order.{at_most_refl}
-use Rattle.zim_linear.specs.Forms.{Term, Assignment, AreTermsFrom, AreTerms, sum_at}
+use Rattle.zim_linear.specs.Forms.{Term, ColumnNumbers, AreTermsFrom, AreTerms, sum_at}
 use Rattle.zim_linear.specs.Ends.{sides_at, IsBetween, AreBetween, IsUncrossed, AreUncrossed, IsReached, AreEnds, counted, end_from, end_answer}
 use Rattle.zim_linear.specs.declared.sides.Sides.{Sides}
 use Rattle.zim_linear.specs.declared.sides.End.{End}
@@ -39,10 +39,10 @@ counted_between Greatest false s side un is = let both = high_between s.low s.hi
 -- ---- assignments that differ at one column
 
 -- v at column j, and elsewhere what the assignment is
-at_column : ℕ → Rational → Assignment → Assignment
+at_column : ℕ → Rational → ColumnNumbers → ColumnNumbers
 at_column j v x i = cond (nat_eq i j) v (x i)
 
-there : (j : ℕ) (v : Rational) (x : Assignment) → at_column j v x j ≡ v
+there : (j : ℕ) (v : Rational) (x : ColumnNumbers) → at_column j v x j ≡ v
 unfolding at_column
 there j v x = ap (λ (b : Bool). cond b v (x j)) (eq-eqb j j refl)
 
@@ -50,18 +50,18 @@ by_test : (b : Bool) (v w : Rational) → ¬ IsTrue b → cond b v w ≡ w
 by_test true v w other = absurd (other refl)
 by_test false v w other = refl
 
-elsewhere : (i j : ℕ) (v : Rational) (x : Assignment) → i ≢ j → at_column j v x i ≡ x i
+elsewhere : (i j : ℕ) (v : Rational) (x : ColumnNumbers) → i ≢ j → at_column j v x i ≡ x i
 unfolding at_column
 elsewhere i j v x other = by_test (nat_eq i j) v (x i) (λ same. other (eqb-true i j same))
 
 -- terms above the column don't see it
-sum_above : (j n : ℕ) (v : Rational) (x : Assignment) (ts : List Term) → j < n → AreTermsFrom n ts → sum_at (at_column j v x) ts ≡ sum_at x ts
+sum_above : (j n : ℕ) (v : Rational) (x : ColumnNumbers) (ts : List Term) → j < n → AreTermsFrom n ts → sum_at (at_column j v x) ts ≡ sum_at x ts
 sum_above j n v x [] above terms = sum_at_none (at_column j v x) ∙ sym (sum_at_none x)
 sum_above j n v x (t ∷ ts) above terms =
     let first : n ≤ t.0 = terms.0 in
     sum_at_more (at_column j v x) t ts ∙ ap₂ plus (ap (times t.1) (elsewhere t.0 j v x (λ e. omega arith))) (sum_above j (suc t.0) v x ts (omega arith) terms.2) ∙ sym (sum_at_more x t ts)
 
-between_above : (j n : ℕ) (v : Rational) (x : Assignment) (sides : List Sides) (ts : List Term) → j < n → AreTermsFrom n ts → AreBetween x sides ts → AreBetween (at_column j v x) sides ts
+between_above : (j n : ℕ) (v : Rational) (x : ColumnNumbers) (sides : List Sides) (ts : List Term) → j < n → AreTermsFrom n ts → AreBetween x sides ts → AreBetween (at_column j v x) sides ts
 between_above j n v x sides [] above terms between = tt
 between_above j n v x sides (t ∷ ts) above terms between =
     let first : n ≤ t.0 = terms.0 in
@@ -69,7 +69,7 @@ between_above j n v x sides (t ∷ ts) above terms between =
 
 -- ---- each column at the side that counts
 
-reached_from : (end : End) (n : ℕ) (sides : List Sides) (ts : List Term) (sum l : Rational) → AreTermsFrom n ts → AreUncrossed sides ts → end_from end sides sum ts ≡ Ok (Some l) → (x : Assignment) × AreBetween x sides ts × (plus sum (sum_at x ts) ≡ l)
+reached_from : (end : End) (n : ℕ) (sides : List Sides) (ts : List Term) (sum l : Rational) → AreTermsFrom n ts → AreUncrossed sides ts → end_from end sides sum ts ≡ Ok (Some l) → (x : ColumnNumbers) × AreBetween x sides ts × (plus sum (sum_at x ts) ≡ l)
 unfolding end_from
 reached_from end n sides [] sum l terms un e =
     let same : sum ≡ l = cc in
@@ -77,7 +77,7 @@ reached_from end n sides [] sum l terms un e =
 reached_from end n sides (t ∷ ts) sum l terms un e =
     let step : HasStep end sides sum t ts l = step_of end sides sum t ts l e in
     let rest = reached_from end (suc t.0) sides ts (plus sum (times t.1 step.side)) l terms.2 un.1 step.rest in
-    let x : Assignment = at_column t.0 step.side rest.0 in (
+    let x : ColumnNumbers = at_column t.0 step.side rest.0 in (
       x,
       (subst (IsBetween (sides_at sides t.0)) (sym (there t.0 step.side rest.0)) (counted_between end (int_lt t.1.numer (pos 0)) (sides_at sides t.0) step.side un.0 step.is), between_above t.0 (suc t.0) step.side rest.0 sides ts (omega arith) terms.2 rest.1),
       ap (plus sum) (sum_at_more x t ts ∙ ap₂ plus (ap (times t.1) (there t.0 step.side rest.0)) (sum_above t.0 (suc t.0) step.side rest.0 ts (omega arith) terms.2)) ∙ sym (plus_assoc sum (times t.1 step.side) (sum_at rest.0 ts)) ∙ rest.2,

@@ -5,7 +5,7 @@ use Rattle.zim_fraction.specs.Answers.{product_answer}
 use Rattle.zim_fraction.specs.declared.fault.Past.{Past}
 use Rattle.zim_rational.specs.Rational.{Rational, zero, plus, times}
 use Rattle.zim_rational.proofs.Ring.{zero_plus, plus_zero, plus_assoc, plus_times, times_assoc, times_comm, zero_times}
-use Rattle.zim_linear.specs.Forms.{Term, LinearForm, Assignment, sum_at, number_at, form_of, AreTermsFrom, AreTerms, AreColumns}
+use Rattle.zim_linear.specs.Forms.{Term, LinearForm, ColumnNumbers, sum_at, number_at, form_of, AreTermsFrom, AreTerms, AreColumns}
 use Rattle.zim_linear.specs.Multiples.{HaveProductsWithin, PushesProduct, IsScaled, IsMultipleWithin, IsMultipleOf}
 use Rattle.zim_linear.proofs.FormLaws.{columns_append, same_or_other, sum_at_none, sum_at_more}
 use Rattle.zim_linear.proofs.AnswerLaws.{product_ok, product_past}
@@ -13,7 +13,7 @@ use Rattle.zim_linear.proofs.MergeLemmas.{one_more, joined, lower_from, append_n
 
 -- some terms of a list are scaled, and a rest is left
 pub record IsScaling (xs : List Term) (q : Rational) (made rest : List Term) : Type 0 where
-  pub number : (x : Assignment) → plus (sum_at x made) (times (sum_at x rest) q) ≡ times (sum_at x xs) q
+  pub number : (x : ColumnNumbers) → plus (sum_at x made) (times (sum_at x rest) q) ≡ times (sum_at x xs) q
   pub bound : ℕ
   pub joins : (more : List Term) → AreTermsFrom bound more → AreTerms (made ++ more)
   pub rest_terms : AreTermsFrom bound rest
@@ -35,7 +35,7 @@ pub scaled_times : (c q v : Rational) → times (times c q) v ≡ times (times c
 scaled_times c q v = times_assoc c q v ∙ ap (times c) (times_comm q v) ∙ sym (times_assoc c v q)
 
 -- the rest's first term, taken to the made ones
-scaled_more : (x : Assignment) (q : Rational) (t : Term) (rest : List Term) → plus (times (times t.1 q) (x t.0)) (times (sum_at x rest) q) ≡ times (sum_at x (t ∷ rest)) q
+scaled_more : (x : ColumnNumbers) (q : Rational) (t : Term) (rest : List Term) → plus (times (times t.1 q) (x t.0)) (times (sum_at x rest) q) ≡ times (sum_at x (t ∷ rest)) q
 scaled_more x q t rest =
     ap (λ n. plus n (times (sum_at x rest) q)) (scaled_times t.1 q (x t.0)) ∙ sym (plus_times (times t.1 (x t.0)) (sum_at x rest) q) ∙ ap (λ n. times n q) (sym (sum_at_more x t rest))
 

@@ -3,7 +3,7 @@ use Rattle.std.proofs.Common.{ℕ, suc, ◌≡◌, ◌≢◌, ◌<◌, ◌≤◌
 use Rattle.std.proofs.lemmas.Bool.{cases_order}
 use Rattle.zim_rational.specs.Rational.{Rational, plus, minus, times}
 use Rattle.zim_rational.proofs.Ring.{zero_plus, plus_minus}
-use Rattle.zim_linear.specs.Forms.{Term, LinearForm, Assignment, AreTermsFrom, AreTerms, sum_at, number_at, form_of}
+use Rattle.zim_linear.specs.Forms.{Term, LinearForm, ColumnNumbers, AreTermsFrom, AreTerms, sum_at, number_at, form_of}
 use Rattle.zim_linear.proofs.ProbeLaws.{only, nowhere, sum_nowhere, sum_below, sum_first, sum_rest}
 
 -- a first term isn't missed by a list whose columns stand behind it
@@ -11,7 +11,7 @@ missed : (n m : ℕ) (t : Term) (ts others : List Term) → AreTermsFrom n (t �
 missed n m t ts others terms behind above e =
     terms.1 (sym (sum_first n t ts terms) ∙ e ∙ sum_below t.0 m others above behind)
 
-one_list : (n m : ℕ) (xs ys : List Term) → AreTermsFrom n xs → AreTermsFrom m ys → ((x : Assignment) → sum_at x xs ≡ sum_at x ys) → xs ≡ ys
+one_list : (n m : ℕ) (xs ys : List Term) → AreTermsFrom n xs → AreTermsFrom m ys → ((x : ColumnNumbers) → sum_at x xs ≡ sum_at x ys) → xs ≡ ys
 one_list n m [] [] left right same = refl
 one_list n m [] (t ∷ ys) left right same = absurd (missed m (suc t.0) t ys [] right tt (omega arith) (sym (same (only t.0))))
 one_list n m (s ∷ xs) [] left right same = absurd (missed n (suc s.0) s xs [] left tt (omega arith) (same (only s.0)))
@@ -28,7 +28,7 @@ one_list n m (s ∷ xs) (t ∷ ys) left right same =
           ]
     ]
 
-pub one_form : (f g : LinearForm) → AreTerms f.terms → AreTerms g.terms → ((x : Assignment) → number_at x f ≡ number_at x g) → f ≡ g
+pub one_form : (f g : LinearForm) → AreTerms f.terms → AreTerms g.terms → ((x : ColumnNumbers) → number_at x f ≡ number_at x g) → f ≡ g
 unfolding number_at
 one_form f g left right same =
     let constant : f.constant ≡ g.constant =

@@ -6,9 +6,9 @@ use Rattle.zim_fraction.specs.Answers.{sum_answer, product_answer}
 use Rattle.zim_fraction.specs.declared.fault.Past.{Past}
 use Rattle.zim_rational.specs.Rational.{Rational, zero, whole, plus, times, is_whole, IsAtMost}
 use Rattle.zim_rational.proofs.Whole.{whole_plus, whole_times, is_whole_whole, whole_is_whole}
-use Rattle.zim_linear.specs.Forms.{Term, LinearForm, Assignment, AreTerms, sum_at, number_at}
+use Rattle.zim_linear.specs.Forms.{Term, LinearForm, ColumnNumbers, AreTerms, sum_at, number_at}
 use Rattle.zim_linear.specs.Integers.{common_multiple, AreWhole, HasWholeNumbers}
-use Rattle.zim_linear.specs.Ends.{AreUncrossed, AreEnds, sides_at, counted, side_of, has_end, and_then, at_side, end_from, end_answer, least_answer, greatest_answer}
+use Rattle.zim_linear.specs.Ends.{AreUncrossed, AreEnds, sides_at, counted, side_of, has_end, with_sum, at_side, end_from, end_answer, least_answer, greatest_answer}
 use Rattle.zim_linear.specs.declared.sides.Sides.{Sides}
 use Rattle.zim_linear.specs.declared.sides.End.{End}
 use Rattle.zim_linear.specs.declared.sides.End.TheVariants.{Least, Greatest}
@@ -35,16 +35,16 @@ unfolding zero
 zero_is_whole = whole_is_whole (pos 0)
 
 -- each column of the terms is a whole number
-abbrev pub AreWholeColumns : Assignment → List Term → Type 0
+abbrev pub AreWholeColumns : ColumnNumbers → List Term → Type 0
 AreWholeColumns x [] = Unit {0}
 AreWholeColumns x (t ∷ ts) = IsWholeNumber (x t.0) × AreWholeColumns x ts
 
-sum_whole : (x : Assignment) (ts : List Term) → AreWholeColumns x ts → AreWhole ts → IsWholeNumber (sum_at x ts)
+sum_whole : (x : ColumnNumbers) (ts : List Term) → AreWholeColumns x ts → AreWhole ts → IsWholeNumber (sum_at x ts)
 sum_whole x [] at all = subst IsWholeNumber (sym (sum_at_none x)) zero_is_whole
 sum_whole x (t ∷ ts) at all =
     subst IsWholeNumber (sym (sum_at_more x t ts)) (whole_sum _ _ (whole_product t.1 (x t.0) all.0 at.0) (sum_whole x ts at.1 all.1))
 
-pub number_whole_at : (x : Assignment) (form : LinearForm) → AreWholeColumns x form.terms → HasWholeNumbers form → IsWholeNumber (number_at x form)
+pub number_whole_at : (x : ColumnNumbers) (form : LinearForm) → AreWholeColumns x form.terms → HasWholeNumbers form → IsWholeNumber (number_at x form)
 unfolding number_at
 number_whole_at x form at all = whole_sum _ _ (sum_whole x form.terms at all.coefficients) all.constant
 
@@ -94,7 +94,7 @@ at_side_none : (o : Option Rational) (next : Rational → Result (Option Rationa
 at_side_none (Some v) next side e h = let same : v ≡ side = cc in subst (λ (r : Rational). next r ≡ Ok None) same h
 at_side_none None next side e h = cc
 
-and_then_none : (r : Result Rational Past) (next : Rational → Result (Option Rational) Past) → and_then r next ≡ Ok None → (q : Rational) × (next q ≡ Ok None)
+and_then_none : (r : Result Rational Past) (next : Rational → Result (Option Rational) Past) → with_sum r next ≡ Ok None → (q : Rational) × (next q ≡ Ok None)
 and_then_none (Ok q) next h = (q, h)
 and_then_none (Err p) next h = cc
 

@@ -10,7 +10,7 @@ use Rattle.zim_rational.specs.Rational.{Rational, zero, one, whole, plus, minus,
 use Rattle.zim_rational.proofs.Fraction.{denom-pos}
 use Rattle.zim_rational.proofs.Ring.{zero_plus, plus_minus, minus_is, plus_times, times_assoc, zero_times}
 use Rattle.zim_rational.proofs.Whole.{whole_plus, whole_times, whole_negate, whole_same, is_whole_whole, whole_is_whole, ratio_times}
-use Rattle.zim_linear.specs.Forms.{Term, LinearForm, Assignment, AreTermsFrom, AreTerms, sum_at, number_at}
+use Rattle.zim_linear.specs.Forms.{Term, LinearForm, ColumnNumbers, AreTermsFrom, AreTerms, sum_at, number_at}
 use Rattle.zim_linear.specs.Multiples.{IsMultipleOf}
 use Rattle.zim_linear.specs.Integers.{AllDivide, common_multiple, IsLeastMultiple, AreWhole, HasWholeNumbers, IsWholeAt, AreWholeTimes, HasWholeMultiple, IsLeastWhole, IntegerAnswer}
 use Rattle.zim_linear.specs.declared.integers.IntegerForm.{IntegerForm}
@@ -50,12 +50,12 @@ whole_one = whole_is_whole (pos 1)
 
 -- ---- a form with whole numbers is whole at whole assignments
 
-sum_whole : (x : Assignment) (ts : List Term) → IsWholeAt x → AreWhole ts → IsWholeNumber (sum_at x ts)
+sum_whole : (x : ColumnNumbers) (ts : List Term) → IsWholeAt x → AreWhole ts → IsWholeNumber (sum_at x ts)
 sum_whole x [] at all = subst IsWholeNumber (sym (sum_at_none x)) whole_zero
 sum_whole x (t ∷ ts) at all =
     subst IsWholeNumber (sym (sum_at_more x t ts)) (whole_sum _ _ (whole_product t.1 (x t.0) all.0 (at t.0)) (sum_whole x ts at all.1))
 
-pub number_whole : (x : Assignment) (form : LinearForm) → IsWholeAt x → HasWholeNumbers form → IsWholeNumber (number_at x form)
+pub number_whole : (x : ColumnNumbers) (form : LinearForm) → IsWholeAt x → HasWholeNumbers form → IsWholeNumber (number_at x form)
 unfolding number_at
 number_whole x form at all = whole_sum _ _ (sum_whole x form.terms at all.coefficients) all.constant
 
@@ -73,13 +73,13 @@ only_whole : (j : ℕ) → IsWholeAt (only j)
 unfolding only
 only_whole j i = whole_by_test (nat_eq i j)
 
-coefficients_whole : (n : ℕ) (ts : List Term) → AreTermsFrom n ts → ((x : Assignment) → IsWholeAt x → IsWholeNumber (sum_at x ts)) → AreWhole ts
+coefficients_whole : (n : ℕ) (ts : List Term) → AreTermsFrom n ts → ((x : ColumnNumbers) → IsWholeAt x → IsWholeNumber (sum_at x ts)) → AreWhole ts
 coefficients_whole n [] terms h = tt
 coefficients_whole n (t ∷ ts) terms h =
     let first : IsWholeNumber t.1 = subst IsWholeNumber (sum_first n t ts terms) (h (only t.0) (only_whole t.0)) in
     (first, coefficients_whole (suc t.0) ts terms.2 (λ x at. subst IsWholeNumber (sum_rest x t ts) (whole_difference _ _ (h x at) (whole_product t.1 (x t.0) first (at t.0)))))
 
-pub numbers_from_assignments : (form : LinearForm) → AreTerms form.terms → ((x : Assignment) → IsWholeAt x → IsWholeNumber (number_at x form)) → HasWholeNumbers form
+pub numbers_from_assignments : (form : LinearForm) → AreTerms form.terms → ((x : ColumnNumbers) → IsWholeAt x → IsWholeNumber (number_at x form)) → HasWholeNumbers form
 unfolding number_at
 numbers_from_assignments form terms h =
     let constant : IsWholeNumber form.constant = subst IsWholeNumber (ap (λ (n : Rational). plus n form.constant) (sum_nowhere form.terms) ∙ zero_plus form.constant) (h nowhere nowhere_whole) in
@@ -129,7 +129,7 @@ all_divide : (ts : List Term) (m : ℕ) → AreWholeTimes m ts → AllDivide ts 
 all_divide [] m all = tt
 all_divide (t ∷ ts) m all = (divides_from_whole t.1 m all.0, all_divide ts m all.1)
 
-sum_times_whole : (x : Assignment) (ts : List Term) (m : ℕ) → IsWholeAt x → AreWholeTimes m ts → IsWholeNumber (times (sum_at x ts) (whole (pos m)))
+sum_times_whole : (x : ColumnNumbers) (ts : List Term) (m : ℕ) → IsWholeAt x → AreWholeTimes m ts → IsWholeNumber (times (sum_at x ts) (whole (pos m)))
 sum_times_whole x [] m at all =
     subst IsWholeNumber (sym (ap (λ (n : Rational). times n (whole (pos m))) (sum_at_none x) ∙ zero_times (whole (pos m)))) whole_zero
 sum_times_whole x (t ∷ ts) m at all =
@@ -138,7 +138,7 @@ sum_times_whole x (t ∷ ts) m at all =
     (sym (ap (λ (n : Rational). times n (whole (pos m))) (sum_at_more x t ts) ∙ plus_times _ _ (whole (pos m)) ∙ ap (λ (n : Rational). plus n (times (sum_at x ts) (whole (pos m)))) (sym (scaled_times t.1 (whole (pos m)) (x t.0)))))
     (whole_sum _ _ (whole_product _ (x t.0) all.0 (at t.0)) (sum_times_whole x ts m at all.1))
 
-number_times_whole : (x : Assignment) (a : LinearForm) (m : ℕ) → IsWholeAt x → HasWholeMultiple a m → IsWholeNumber (times (number_at x a) (whole (pos m)))
+number_times_whole : (x : ColumnNumbers) (a : LinearForm) (m : ℕ) → IsWholeAt x → HasWholeMultiple a m → IsWholeNumber (times (number_at x a) (whole (pos m)))
 unfolding number_at
 number_times_whole x a m at all =
     subst
@@ -153,7 +153,7 @@ pub least_whole : (a : LinearForm) (made : IntegerForm) → made.k ≡ pos (comm
 least_whole a made e multiple =
     let least : IsLeastMultiple a (common_multiple a) = common_is_least a in
     let all : HasWholeMultiple a (common_multiple a) = record { coefficients = all_whole a.terms _ least.coefficients; constant = whole_from_divides a.constant _ least.constant } in
-    let at_whole : (x : Assignment) → IsWholeAt x → IsWholeNumber (number_at x made.form) =
+    let at_whole : (x : ColumnNumbers) → IsWholeAt x → IsWholeNumber (number_at x made.form) =
     λ x at. subst IsWholeNumber (sym (multiple.number x ∙ ap (λ (k : ℤ). times (number_at x a) (whole k)) e)) (number_times_whole x a (common_multiple a) at all) in
     record {
       numbers = numbers_from_assignments made.form multiple.terms at_whole;

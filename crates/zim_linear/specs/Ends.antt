@@ -4,7 +4,7 @@ use Rattle.std.specs.Option.{is_some}
 use Rattle.zim_fraction.specs.Answers.{sum_answer, product_answer}
 use Rattle.zim_fraction.specs.declared.fault.Past.{Past}
 use Rattle.zim_rational.specs.Rational.{Rational, zero, IsAtMost}
-use Rattle.zim_linear.specs.Forms.{Term, AreColumns, Assignment, sum_at}
+use Rattle.zim_linear.specs.Forms.{Term, AreColumns, ColumnNumbers, sum_at}
 use Rattle.zim_linear.specs.declared.sides.Sides.{Sides}
 use Rattle.zim_linear.specs.declared.sides.End.{End}
 use Rattle.zim_linear.specs.declared.sides.End.TheVariants.{Least, Greatest}
@@ -27,7 +27,7 @@ pub record IsBetween (sides : Sides) (v : Rational) : Type 0 where
   pub high : IfSome sides.high (λ h. IsAtMost v h)
 
 -- each column of the terms lies between its sides
-abbrev pub AreBetween : Assignment → List Sides → List Term → Type 0
+abbrev pub AreBetween : ColumnNumbers → List Sides → List Term → Type 0
 AreBetween x sides [] = Unit {0}
 AreBetween x sides (t ∷ ts) = IsBetween (sides_at sides t.0) (x t.0) × AreBetween x sides ts
 
@@ -46,9 +46,9 @@ has_end end sides [] = true
 has_end end sides (t ∷ ts) = is_some (side_of end sides t) && has_end end sides ts
 
 -- goes on with a sum, where there is one
-abbrev pub and_then : Result Rational Past → (Rational → Result (Option Rational) Past) → Result (Option Rational) Past
-and_then (Ok q) next = next q
-and_then (Err past) next = Err past
+abbrev pub with_sum : Result Rational Past → (Rational → Result (Option Rational) Past) → Result (Option Rational) Past
+with_sum (Ok q) next = next q
+with_sum (Err past) next = Err past
 
 -- goes on with a side, where there is one
 abbrev pub at_side : Option Rational → (Rational → Result (Option Rational) Past) → Result (Option Rational) Past
@@ -61,7 +61,7 @@ end_from end sides sum [] = Ok (Some sum)
 end_from end sides sum (t ∷ ts) =
     at_side
     (side_of end sides t)
-    (λ side. and_then (product_answer t.1 side) (λ product. and_then (sum_answer sum product) (λ next. end_from end sides next ts)))
+    (λ side. with_sum (product_answer t.1 side) (λ product. with_sum (sum_answer sum product) (λ next. end_from end sides next ts)))
 
 -- an end of the terms: none where a side that counts is infinite, else the sum of the products
 unfoldable pub end_answer : End → List Sides → List Term → Result (Option Rational) Past
@@ -90,11 +90,11 @@ AreUncrossed sides (t ∷ ts) = IsUncrossed (sides_at sides t.0) × AreUncrossed
 
 -- the terms come to v at columns that lie between their sides
 abbrev pub IsReached : List Sides → List Term → Rational → Type 0
-IsReached sides terms v = (x : Assignment) × AreBetween x sides terms × (sum_at x terms ≡ v)
+IsReached sides terms v = (x : ColumnNumbers) × AreBetween x sides terms × (sum_at x terms ≡ v)
 
 -- the ends are the least and the greatest number of the terms: wherever the columns lie between their sides, the sum of
 -- the terms lies between the ends, and where no sides are crossed, each finite end is such a sum
 pub record AreEnds (sides : List Sides) (terms : List Term) (ends : Sides) : Type 0 where
-  pub kept : (x : Assignment) → AreBetween x sides terms → IsBetween ends (sum_at x terms)
+  pub kept : (x : ColumnNumbers) → AreBetween x sides terms → IsBetween ends (sum_at x terms)
   pub low_reached : AreUncrossed sides terms → IfSome ends.low (IsReached sides terms)
   pub high_reached : AreUncrossed sides terms → IfSome ends.high (IsReached sides terms)

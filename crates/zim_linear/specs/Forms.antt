@@ -37,13 +37,13 @@ AreColumns n [] = Unit {0}
 AreColumns n (t ∷ ts) = (0 < t.0) × (t.0 ≤ n) × AreColumns n ts
 
 -- what each column is
-abbrev pub Assignment : Type 0
-Assignment = ℕ → Rational
+abbrev pub ColumnNumbers : Type 0
+ColumnNumbers = ℕ → Rational
 
 -- the sum of the terms, each its coefficient times what its column is
-unfoldable pub sum_at : Assignment → List Term → Rational
+unfoldable pub sum_at : ColumnNumbers → List Term → Rational
 sum_at x terms = total (map (λ (t : Term). times t.1 (x t.0)) terms)
 
 -- the number of a form at an assignment
-unfoldable pub number_at : Assignment → LinearForm → Rational
+unfoldable pub number_at : ColumnNumbers → LinearForm → Rational
 number_at x form = plus (sum_at x form.terms) form.constant

@@ -4,7 +4,7 @@ use Rattle.std.specs.Int.{◌∣◌}
 use Rattle.zim_fraction.specs.Limit.{limit}
 use Rattle.zim_rational.specs.Gcd.{lcm}
 use Rattle.zim_rational.specs.Rational.{whole, times, is_whole}
-use Rattle.zim_linear.specs.Forms.{Term, LinearForm, Assignment, number_at}
+use Rattle.zim_linear.specs.Forms.{Term, LinearForm, ColumnNumbers, number_at}
 use Rattle.zim_linear.specs.Multiples.{IsMultipleWithin, IsMultipleOf}
 use Rattle.zim_linear.specs.declared.faults.LinFault.{LinFault}
 use Rattle.zim_linear.specs.declared.faults.LinFault.TheVariants.{Past, Memory}
@@ -42,7 +42,7 @@ pub record HasWholeNumbers (form : LinearForm) : Type 0 where
   pub constant : IsTrue (is_whole form.constant)
 
 -- each column is a whole number
-abbrev pub IsWholeAt : Assignment → Type 0
+abbrev pub IsWholeAt : ColumnNumbers → Type 0
 IsWholeAt x = (j : ℕ) → IsTrue (is_whole (x j))
 
 -- each coefficient times m is a whole number
@@ -59,7 +59,7 @@ pub record HasWholeMultiple (a : LinearForm) (m : ℕ) : Type 0 where
 -- form has whole numbers is at least k
 pub record IsLeastWhole (a : LinearForm) (made : IntegerForm) : Type 0 where
   pub numbers : HasWholeNumbers made.form
-  pub at_whole : (x : Assignment) → IsWholeAt x → IsTrue (is_whole (number_at x made.form))
+  pub at_whole : (x : ColumnNumbers) → IsWholeAt x → IsTrue (is_whole (number_at x made.form))
   pub least : (m : ℕ) → 0 < m → HasWholeMultiple a m → made.k ≤ℤ pos m
 
 -- neither the least common multiple nor a product with it is past

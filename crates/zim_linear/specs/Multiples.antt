@@ -2,7 +2,7 @@
 use Rattle.std.specs.Prelude.{ℕ, ◌≡◌, ◌≢◌, List, [], ◌∷◌, ◌++◌, IsTrue, Result, Ok, Err}
 use Rattle.zim_fraction.specs.Limit.{is_number}
 use Rattle.zim_rational.specs.Rational.{Rational, zero, times}
-use Rattle.zim_linear.specs.Forms.{Term, LinearForm, Assignment, AreTerms, AreColumns, sum_at, number_at}
+use Rattle.zim_linear.specs.Forms.{Term, LinearForm, ColumnNumbers, AreTerms, AreColumns, sum_at, number_at}
 use Rattle.zim_linear.specs.declared.faults.LinFault.{LinFault}
 use Rattle.zim_linear.specs.declared.faults.LinFault.TheVariants.{Past, Memory}
 
@@ -25,7 +25,7 @@ ProductAnswer old t q new (Err Memory) = Unit {0}
 
 -- terms in order that are, at every assignment, a list of terms times q, whose products are all within the limit
 pub record IsScaled (xs : List Term) (q : Rational) (made : List Term) : Type 0 where
-  pub number : (x : Assignment) → sum_at x made ≡ times (sum_at x xs) q
+  pub number : (x : ColumnNumbers) → sum_at x made ≡ times (sum_at x xs) q
   pub terms : AreTerms made
   pub columns : (n : ℕ) → AreColumns n xs → AreColumns n made
   pub within : HaveProductsWithin xs q
@@ -42,6 +42,6 @@ IsMultipleWithin a q = HaveProductsWithin a.terms q × IsTrue (is_number (times 
 
 -- at every assignment the number is that of a times q; the terms are in order, and no column is new
 pub record IsMultipleOf (a : LinearForm) (q : Rational) (form : LinearForm) : Type 0 where
-  pub number : (x : Assignment) → number_at x form ≡ times (number_at x a) q
+  pub number : (x : ColumnNumbers) → number_at x form ≡ times (number_at x a) q
   pub terms : AreTerms form.terms
   pub columns : (n : ℕ) → AreColumns n a.terms → AreColumns n form.terms

@@ -2,7 +2,7 @@
 use Rattle.std.specs.Prelude.{ℕ, ◌≡◌, ◌≢◌, List, [], ◌∷◌, ◌++◌, map, IsTrue, Result, Ok, Err}
 use Rattle.zim_fraction.specs.Limit.{is_sum_within}
 use Rattle.zim_rational.specs.Rational.{zero, plus, minus, negate}
-use Rattle.zim_linear.specs.Forms.{Term, LinearForm, Assignment, AreTerms, AreColumns, sum_at, number_at}
+use Rattle.zim_linear.specs.Forms.{Term, LinearForm, ColumnNumbers, AreTerms, AreColumns, sum_at, number_at}
 use Rattle.zim_linear.specs.declared.faults.LinFault.{LinFault}
 use Rattle.zim_linear.specs.declared.faults.LinFault.TheVariants.{Past, Memory}
 
@@ -30,7 +30,7 @@ PushAnswer old s t new (Err Memory) = Unit {0}
 
 -- terms in order that are, at every assignment, the sum of two lists of terms, whose columns all have sums of their coefficients
 pub record IsMerged (xs ys made : List Term) : Type 0 where
-  pub number : (x : Assignment) → sum_at x made ≡ plus (sum_at x xs) (sum_at x ys)
+  pub number : (x : ColumnNumbers) → sum_at x made ≡ plus (sum_at x xs) (sum_at x ys)
   pub terms : AreTerms made
   pub columns : (n : ℕ) → AreColumns n xs → AreColumns n ys → AreColumns n made
   pub within : HaveSumsWithin xs ys
@@ -47,7 +47,7 @@ IsSumWithin a b = HaveSumsWithin a.terms b.terms × IsTrue (is_sum_within a.cons
 
 -- at every assignment the number is the sum of the numbers of a and b; the terms are in order, and no column is new
 pub record IsSumOf (a b form : LinearForm) : Type 0 where
-  pub number : (x : Assignment) → number_at x form ≡ plus (number_at x a) (number_at x b)
+  pub number : (x : ColumnNumbers) → number_at x form ≡ plus (number_at x a) (number_at x b)
   pub terms : AreTerms form.terms
   pub columns : (n : ℕ) → AreColumns n a.terms → AreColumns n b.terms → AreColumns n form.terms
 
@@ -71,6 +71,6 @@ IsDifferenceWithin a b = IsSumWithin a (negated_form b)
 
 -- at every assignment the number is that of a less that of b; the terms are in order, and no column is new
 pub record IsDifferenceOf (a b form : LinearForm) : Type 0 where
-  pub number : (x : Assignment) → number_at x form ≡ minus (number_at x a) (number_at x b)
+  pub number : (x : ColumnNumbers) → number_at x form ≡ minus (number_at x a) (number_at x b)
   pub terms : AreTerms form.terms
   pub columns : (n : ℕ) → AreColumns n a.terms → AreColumns n b.terms → AreColumns n form.terms

@@ -6,7 +6,7 @@ use Rattle.std.proofs.lemmas.List.Splits.{slice_split_at}
 use Rattle.std.proofs.lemmas.List.Elements.{All-cons, All-nil}
 use Rattle.std.proofs.lemmas.Bool.Decides.{nat_tests}
 use Rattle.std.proofs.lemmas.Bool.{or_parts}
-use Rattle.zim_lp.specs.Words.{Word, is_gap, without_comments, is_empty, words, lp_words}
+use Rattle.zim_lp.specs.Words.{Word, is_gap, without_comments, is_empty_word, words, lp_words}
 
 -- A byte that is neither a gap nor a backslash.
 pub record IsPlainByte (b : ℕ) : Type 0 where
@@ -15,7 +15,7 @@ pub record IsPlainByte (b : ℕ) : Type 0 where
 
 -- One such byte or more.
 pub record IsWord (w : List ℕ) : Type 0 where
-  pub some : is_empty w ≡ false
+  pub some : is_empty_word w ≡ false
   pub plain : AllByRecursion IsPlainByte w
 
 -- A text begins with a gap.

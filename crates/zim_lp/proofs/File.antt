@@ -3,10 +3,10 @@ use Rattle.std.proofs.Common.{◌≡◌, ℕ, Bool, true, false, cond, List, [],
 use Rattle.std.specs.Prelude.{codes, flat_map, option_and_then}
 use Rattle.std.specs.List.{AllByRecursion}
 use Rattle.std.proofs.lemmas.List.{append-nil}
-use Rattle.zim_instance.specs.Instance.{Term, Row}
+use Rattle.zim_instance.specs.Instance.{NamedTerm, Row}
 use Rattle.zim_lp.specs.Words.{Word, lp_words}
 use Rattle.zim_lp.specs.Program.{Program}
-use Rattle.zim_lp.specs.Syntax.{is_label, is_name, read_name, read_row, begins_bound, read_bound, read_generals}
+use Rattle.zim_lp.specs.Syntax.{is_label, is_lp_name, read_name, read_row, begins_bound, read_bound, read_generals}
 use Rattle.zim_lp.specs.Reader.{read_last_sections, read_sections, read_program}
 use Rattle.zim_lp.specs.FileText.{WrittenRow, WrittenColumn, WrittenFile, row_text, bound_text, general_text, generals_text, integers, aim_text, terms_text, file_text}
 use Rattle.zim_lp.proofs.Cutting.{Closed, Closed-Closed, Open-Closed}
@@ -120,13 +120,13 @@ file_closed file is =
 generals_read : (columns : List WrittenColumn) → AllByRecursion IsReadableColumn columns → read_generals (generals_words columns ++ (codes "End" ∷ [])) ≡ Some (map (λ (c : WrittenColumn). c.name) columns, codes "End" ∷ [])
 generals_read [] all = refl
 generals_read (c ∷ cs) all =
-    rw (read_all-words is_name read_name (λ (d : WrittenColumn). d.name) (λ (d : WrittenColumn). []) (λ (d : WrittenColumn). d.name) (c ∷ cs) (each IsReadableColumn (λ (d : WrittenColumn). Reads is_name read_name d.name [] d.name) general_reads (c ∷ cs) all) (codes "End" ∷ []) refl) refl
+    rw (read_all-words is_lp_name read_name (λ (d : WrittenColumn). d.name) (λ (d : WrittenColumn). []) (λ (d : WrittenColumn). d.name) (c ∷ cs) (each IsReadableColumn (λ (d : WrittenColumn). Reads is_lp_name read_name d.name [] d.name) general_reads (c ∷ cs) all) (codes "End" ∷ []) refl) refl
 
 generals_stop : (columns : List WrittenColumn) → stops begins_bound (generals_words columns ++ (codes "End" ∷ [])) ≡ true
 generals_stop [] = refl
 generals_stop (c ∷ cs) = refl
 
-last_sections : (maximises : Bool) (objective : List Term) (rows : List Row) (columns : List WrittenColumn) → AllByRecursion IsReadableColumn columns → read_last_sections maximises objective rows (bounds_words columns ++ (generals_words (integers columns) ++ (codes "End" ∷ []))) ≡ Some (record { maximises = maximises; objective = objective; rows = rows; bounds = map bound_said columns; generals = map (λ (c : WrittenColumn). c.name) (integers columns) })
+last_sections : (maximises : Bool) (objective : List NamedTerm) (rows : List Row) (columns : List WrittenColumn) → AllByRecursion IsReadableColumn columns → read_last_sections maximises objective rows (bounds_words columns ++ (generals_words (integers columns) ++ (codes "End" ∷ []))) ≡ Some (record { maximises = maximises; objective = objective; rows = rows; bounds = map bound_said columns; generals = map (λ (c : WrittenColumn). c.name) (integers columns) })
 last_sections maximises objective rows columns all =
     rw (
       read_all-words begins_bound read_bound first_word more_words bound_said columns (each IsReadableColumn (λ (c : WrittenColumn). Reads begins_bound read_bound (first_word c) (more_words c) (bound_said c)) bound_reads columns all) (generals_words (integers columns) ++ (codes "End" ∷ [])) (generals_stop (integers columns)),
@@ -134,7 +134,7 @@ last_sections maximises objective rows columns all =
     )
     refl
 
-sections_read : (maximises : Bool) (objective : List Term) (file : WrittenFile) → IsReadableFile file → read_sections maximises objective (behind_objective file) ≡ Some (record { maximises = maximises; objective = objective; rows = map row_said file.rows; bounds = map bound_said file.columns; generals = map (λ (c : WrittenColumn). c.name) (integers file.columns) })
+sections_read : (maximises : Bool) (objective : List NamedTerm) (file : WrittenFile) → IsReadableFile file → read_sections maximises objective (behind_objective file) ≡ Some (record { maximises = maximises; objective = objective; rows = map row_said file.rows; bounds = map bound_said file.columns; generals = map (λ (c : WrittenColumn). c.name) (integers file.columns) })
 sections_read maximises objective file is =
     rw
     (read_all-words is_label read_row (λ (r : WrittenRow). r.label) behind_label row_said file.rows (each IsReadableRow (λ (r : WrittenRow). Reads is_label read_row r.label (behind_label r) (row_said r)) row_reads file.rows is.rows) (behind_rows file) refl)
@@ -145,10 +145,10 @@ words_read file is = by_aim file.maximises
   where
     by_aim : (maximises : Bool) → read_program (aim_word maximises ∷ codes "obj:" ∷ (terms_words file.objective ++ behind_objective file)) ≡ Some (record (program_said file) { maximises = maximises })
     by_aim true =
-        ap (option_and_then (λ (objective : List Term × List Word). read_sections true objective.0 objective.1)) (terms_read file.objective is.objective (behind_objective file) refl)
+        ap (option_and_then (λ (objective : List NamedTerm × List Word). read_sections true objective.0 objective.1)) (terms_read file.objective is.objective (behind_objective file) refl)
         ∙ sections_read true (map term_said file.objective) file is
     by_aim false =
-        ap (option_and_then (λ (objective : List Term × List Word). read_sections false objective.0 objective.1)) (terms_read file.objective is.objective (behind_objective file) refl)
+        ap (option_and_then (λ (objective : List NamedTerm × List Word). read_sections false objective.0 objective.1)) (terms_read file.objective is.objective (behind_objective file) refl)
         ∙ sections_read false (map term_said file.objective) file is
 
 -- the text of a file is read into its sections

@@ -4,13 +4,13 @@ use Rattle.std.specs.Prelude.{flat_map, fold, option_map, ⊤}
 use Rattle.std.specs.List.{AllByRecursion}
 use Rattle.std.specs.Str.{bytes_eq}
 use Rattle.zim_rational.specs.Rational.{Rational, zero}
-use Rattle.zim_instance.specs.Instance.{Column, Term, Row}
+use Rattle.zim_instance.specs.Instance.{Column, NamedTerm, Row}
 use Rattle.zim_instance.specs.System.{NamedColumn, column_named, HasDistinctNames, Says}
 use Rattle.zim_instance.proofs.Points.{same-bytes_eq}
 use Rattle.zim_rows.specs.declared.rows.Sense.{Sense}
 use Rattle.zim_rows.specs.declared.rows.Sense.TheVariants.{AtLeast, AtMost, Equal}
 use Rattle.zim_lp.specs.Words.{Word}
-use Rattle.zim_lp.specs.Program.{is_among, names_of_terms, names_of_program, name_of_bound, with_ends, with_bound, column_of_program, instance_of}
+use Rattle.zim_lp.specs.Program.{is_among, names_of_terms, names_of_program, name_of_bound, ends_set, with_bound, column_of_program, instance_of}
 use Rattle.zim_lp.specs.Reader.{lp}
 use Rattle.zim_lp.specs.FileText.{WrittenTerm, WrittenRow, WrittenColumn, WrittenFile, integers, file_text}
 use Rattle.zim_lp.proofs.Readable.{number_said, term_said, row_by, row_said, column_said, system_said, column_names, AreOver, IsReadableFile}
@@ -49,7 +49,7 @@ terms_names : (known : List Word) (ts : List WrittenTerm) → AreOver known ts �
 terms_names known [] all = tt
 terms_names known (t ∷ ts) all = (all.0, terms_names known ts all.1)
 
-terms_of_row : (sense : Sense) (terms : List Term) (right : Rational) → (row_by sense terms right).terms ≡ terms
+terms_of_row : (sense : Sense) (terms : List NamedTerm) (right : Rational) → (row_by sense terms right).terms ≡ terms
 terms_of_row AtLeast terms right = refl
 terms_of_row AtMost terms right = refl
 terms_of_row Equal terms right = refl
@@ -62,7 +62,7 @@ rows_names known (r ∷ rows) all =
     (names_of_terms (row_said r).terms)
     (flat_map (λ (s : Row). names_of_terms s.terms) (map row_said rows))
     (subst
-    (λ (ts : List Term). AllAmong known (names_of_terms ts))
+    (λ (ts : List NamedTerm). AllAmong known (names_of_terms ts))
     (sym (terms_of_row r.sense (map term_said r.terms) (number_said r.right)))
     (terms_names known r.terms all.0))
     (rows_names known rows all.1)
@@ -119,7 +119,7 @@ file_names file is name =
 abbrev unbounded : Bool → Column
 unbounded integer = record { integer = integer; lower = Some zero; upper = None }
 
-bound_sets : (mark : Bool) (name : Word) (lower upper : Option Rational) → with_ends (unbounded mark) (bound_by name lower upper) ≡ record { integer = mark; lower = lower; upper = upper }
+bound_sets : (mark : Bool) (name : Word) (lower upper : Option Rational) → ends_set (unbounded mark) (bound_by name lower upper) ≡ record { integer = mark; lower = lower; upper = upper }
 bound_sets mark name (Some lower) (Some upper) = refl
 bound_sets mark name (Some lower) None = refl
 bound_sets mark name None (Some upper) = refl

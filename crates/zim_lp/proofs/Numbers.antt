@@ -22,8 +22,8 @@ use Rattle.zim_decimal.specs.Short.{scale, is_short, decimals, point_and, whole_
 use Rattle.zim_decimal.specs.Token.{are_digits}
 use Rattle.zim_decimal.proofs.TokenLaws.{all_digits}
 use Rattle.zim_decimal.proofs.ValueLaws as value
-use Rattle.zim_lp.specs.Words.{is_empty}
-use Rattle.zim_lp.specs.Numerals.{number_without_sign, number_of_word}
+use Rattle.zim_lp.specs.Words.{is_empty_word}
+use Rattle.zim_lp.specs.Numerals.{unsigned_number, number_of_word}
 use Rattle.zim_lp.specs.FileText.{WrittenNumber, number_text}
 use Rattle.zim_lp.specs.Text.{magnitude, short_number}
 use Rattle.zim_lp.proofs.Cutting.{IsPlainByte, IsWord}
@@ -33,14 +33,14 @@ pub record IsNumber (n : WrittenNumber) (q : Rational) : Type 0 where
   pub absolute : Rational
   pub word : IsWord n.absolute
   pub unsigned : starts_with_minus n.absolute ≡ false
-  pub reads : number_without_sign n.absolute ≡ Some absolute
+  pub reads : unsigned_number n.absolute ≡ Some absolute
   pub signed : q ≡ cond n.negative (negate absolute) absolute
 
 -- the absolute value reads as itself
 pub reads_absolute : (n : WrittenNumber) (q : Rational) (is : IsNumber n q) → number_of_word n.absolute ≡ Some is.absolute
 reads_absolute n q is = rw is.unsigned is.reads
 
-reads_with_sign : (negative : Bool) (digits : List ℕ) (a q : Rational) → starts_with_minus digits ≡ false → number_without_sign digits ≡ Some a → q ≡ cond negative (negate a) a → number_of_word (number_text (record { negative = negative; absolute = digits })) ≡ Some q
+reads_with_sign : (negative : Bool) (digits : List ℕ) (a q : Rational) → starts_with_minus digits ≡ false → unsigned_number digits ≡ Some a → q ≡ cond negative (negate a) a → number_of_word (number_text (record { negative = negative; absolute = digits })) ≡ Some q
 reads_with_sign true digits a q unsigned reads signed = rw (reads, signed) refl
 reads_with_sign false digits a q unsigned reads signed = rw (unsigned, reads, signed) refl
 
@@ -87,7 +87,7 @@ no_minus (d ∷ ds) digits = no_minus_byte d (and_parts (is_ascii_digit d) (all_
     no_minus_byte b digit = grind (arith, nat_tests)
 
 -- digits without a point read as their value
-digits_read : (ds : List ℕ) → is_empty ds ≡ false → all_ascii_digits ds ≡ true → number_without_sign ds ≡ Some (ratio (pos (digits_value 10 ds)) 1)
+digits_read : (ds : List ℕ) → is_empty_word ds ≡ false → all_ascii_digits ds ≡ true → unsigned_number ds ≡ Some (ratio (pos (digits_value 10 ds)) 1)
 digits_read ds some digits = rw (slice_split_none (λ b. b == 46) ds (no_points ds digits), some, digits) refl
 
 own : IsNumeralModel (λ ds. all_ascii_digits ds ≡ true) (digits_value 10)
@@ -97,11 +97,11 @@ own = numerals_by_value (λ ds. all_ascii_digits ds ≡ true) tells_all_ascii_di
 pub decimal_digits : (n : ℕ) → n < 2 ^ 64 → all_ascii_digits (decimal n) ≡ true
 decimal_digits n h = digits_decimal own n h
 
-not_empty : (ds : List ℕ) → 0 < length ds → is_empty ds ≡ false
+not_empty : (ds : List ℕ) → 0 < length ds → is_empty_word ds ≡ false
 not_empty [] h = absurd (omega arith)
 not_empty (d ∷ ds) h = refl
 
-pub decimal_some : (n : ℕ) → n < 2 ^ 64 → is_empty (decimal n) ≡ false
+pub decimal_some : (n : ℕ) → n < 2 ^ 64 → is_empty_word (decimal n) ≡ false
 decimal_some n h = not_empty (decimal n) (decimal_nonempty n h)
 
 pub decimal_word : (n : ℕ) → n < 2 ^ 64 → IsWord (decimal n)
@@ -115,7 +115,7 @@ same_digits [] = refl
 same_digits (d ∷ ds) = ap (λ b. is_ascii_digit d && b) (same_digits ds)
 
 -- digits and decimals read as their digits over the power of ten of the number of decimals
-parts_read : (xs ds : List ℕ) → is_empty xs ≡ false → all_ascii_digits xs ≡ true → all_ascii_digits ds ≡ true → number_without_sign (xs ++ point_and ds) ≡ Some (ratio (pos (digits_value 10 (xs ++ ds))) (10 ^ length ds))
+parts_read : (xs ds : List ℕ) → is_empty_word xs ≡ false → all_ascii_digits xs ≡ true → all_ascii_digits ds ≡ true → unsigned_number (xs ++ point_and ds) ≡ Some (ratio (pos (digits_value 10 (xs ++ ds))) (10 ^ length ds))
 unfolding point_and
 parts_read xs [] some digits behind = rw (append-nil xs) (digits_read xs some digits)
 parts_read xs (d ∷ ds) some digits behind =
@@ -137,14 +137,14 @@ unfolding point_and
 point_plain [] digits = tt
 point_plain (d ∷ ds) digits = (record { gap = refl; backslash = refl }, digits_plain (d ∷ ds) digits)
 
-parts_word : (xs ds : List ℕ) → is_empty xs ≡ false → all_ascii_digits xs ≡ true → all_ascii_digits ds ≡ true → IsWord (xs ++ point_and ds)
+parts_word : (xs ds : List ℕ) → is_empty_word xs ≡ false → all_ascii_digits xs ≡ true → all_ascii_digits ds ≡ true → IsWord (xs ++ point_and ds)
 parts_word [] ds some digits behind = cc
 parts_word (x ∷ xs) ds some digits behind = record {
   some = refl;
   plain = plain_append (x ∷ xs) (point_and ds) (digits_plain (x ∷ xs) digits) (point_plain ds behind);
 }
 
-parts_unsigned : (xs ds : List ℕ) → is_empty xs ≡ false → all_ascii_digits xs ≡ true → starts_with_minus (xs ++ point_and ds) ≡ false
+parts_unsigned : (xs ds : List ℕ) → is_empty_word xs ≡ false → all_ascii_digits xs ≡ true → starts_with_minus (xs ++ point_and ds) ≡ false
 parts_unsigned [] ds some digits = cc
 parts_unsigned (x ∷ xs) ds some digits = no_minus (x ∷ xs) digits
 
@@ -152,7 +152,7 @@ parts_unsigned (x ∷ xs) ds some digits = no_minus (x ∷ xs) digits
 record IsSize (text : List ℕ) (q : Rational) : Type 0 where
   pub word : IsWord text
   pub unsigned : starts_with_minus text ≡ false
-  pub reads : number_without_sign text ≡ Some q
+  pub reads : unsigned_number text ≡ Some q
 
 size_is : (n d : ℕ) → 0 < d → scale % d ≡ 0 → n / d < 10 ^ 64 → IsSize (whole_text (n / d) ++ point_and (decimals 15 d (n % d))) (ratio (pos n) d)
 size_is n d some short small =
@@ -160,7 +160,7 @@ size_is n d some short small =
     let ds : List ℕ = decimals 15 d (n % d) in
     let below : n % d < d = omega arith in
     let digits : all_ascii_digits xs ≡ true = sym (same_digits xs) ∙ all_digits xs (value.decimal_digits (n / d) small) in
-    let filled : is_empty xs ≡ false = some_bytes xs (value.decimal_digits (n / d) small) in
+    let filled : is_empty_word xs ≡ false = some_bytes xs (value.decimal_digits (n / d) small) in
     let behind : all_ascii_digits ds ≡ true = sym (same_digits ds) ∙ value.decimals_digits 15 d (n % d) some below in
     record {
       word = parts_word xs ds filled digits behind;
@@ -172,7 +172,7 @@ size_is n d some short small =
           (same_ratios (pos (digits_value 10 (xs ++ ds))) (pos n) (10 ^ length ds) d (one-le-pow (length ds) 10 (omega arith)) some (ap pos (value.text_value n d some short small)));
     }
   where
-    some_bytes : (xs : List ℕ) → are_digits xs ≡ true → is_empty xs ≡ false
+    some_bytes : (xs : List ℕ) → are_digits xs ≡ true → is_empty_word xs ≡ false
     some_bytes [] e = cc
     some_bytes (x ∷ xs) e = refl
 

@@ -8,15 +8,15 @@ use Rattle.std.proofs.lemmas.Bool.{and_parts, or_parts}
 use Rattle.std.proofs.lemmas.Bool.Decides.{nat_tests}
 use Rattle.std.proofs.lemmas.List.{length-append}
 use Rattle.zim_rational.specs.Rational.{Rational, negate}
-use Rattle.zim_instance.specs.Instance.{Term}
+use Rattle.zim_instance.specs.Instance.{NamedTerm}
 use Rattle.zim_rows.specs.declared.rows.Sense.{Sense}
 use Rattle.zim_rows.specs.declared.rows.Sense.TheVariants.{AtLeast, AtMost, Equal}
 use Rattle.zim_lp.specs.Words.{Word}
-use Rattle.zim_lp.specs.Numerals.{number_of_parts, number_of_word}
+use Rattle.zim_lp.specs.Numerals.{number_around_points, number_of_word}
 use Rattle.zim_instance.proofs.Points.{same-bytes_eq}
 use Rattle.zim_lp.specs.Program.{Bound, is_among}
 use Rattle.zim_lp.specs.Program.Bound.{Ends, LowerEnd}
-use Rattle.zim_lp.specs.Syntax.{Reading, read_all, read_term, read_signed_term, read_terms, is_sign, is_label, is_name, section_words, read_relation, read_row, begins_bound, read_bound, read_name}
+use Rattle.zim_lp.specs.Syntax.{Reading, read_all, read_term, read_signed_term, read_terms, is_plus_or_minus, is_label, is_lp_name, section_words, read_relation, read_row, begins_bound, read_bound, read_name}
 use Rattle.zim_lp.specs.FileText.{WrittenTerm, WrittenNumber, WrittenRow, WrittenColumn, number_text}
 use Rattle.zim_lp.proofs.Numbers.{reads_number, reads_absolute}
 use Rattle.zim_lp.proofs.Readable.{number_said, term_said, row_by, row_said, IsReadableNumber, IsReadableTerm, AreReadableTerms, IsReadableRow, IsReadableEnd, IsReadableColumn}
@@ -74,37 +74,37 @@ number_reads : (n : WrittenNumber) → IsReadableNumber n → number_of_word (nu
 number_reads n is = reads_number n (number_said n) is
 
 first_term_reads : (t : WrittenTerm) → IsReadableTerm t → (rest : List Word) → read_term (first_term_words t ++ rest) ≡ Some (term_said t, rest)
-first_term_reads t is rest = rw (is.name.name) (ap (option_map (λ q. (let said : Term = record { name = t.name; coefficient = q } in said, rest))) (number_reads t.number is.number))
+first_term_reads t is rest = rw (is.name.name) (ap (option_map (λ q. (let said : NamedTerm = record { name = t.name; coefficient = q } in said, rest))) (number_reads t.number is.number))
 
-further_term_reads : (t : WrittenTerm) → IsReadableTerm t → Reads is_sign read_signed_term (sign_word t.number.negative) (behind_sign t) (term_said t)
+further_term_reads : (t : WrittenTerm) → IsReadableTerm t → Reads is_plus_or_minus read_signed_term (sign_word t.number.negative) (behind_sign t) (term_said t)
 further_term_reads t is =
     by_sign t.number.negative t.number.absolute t.name is.number.absolute (number_said t.number) is.name.name (reads_absolute t.number (number_said t.number) is.number) is.number.signed
   where
-    by_sign : (negative : Bool) (digits name : List ℕ) (a q : Rational) → is_name name ≡ true → number_of_word digits ≡ Some a → q ≡ cond negative (negate a) a → Reads is_sign read_signed_term (sign_word negative) (digits ∷ name ∷ []) (record { name = name; coefficient = q })
+    by_sign : (negative : Bool) (digits name : List ℕ) (a q : Rational) → is_lp_name name ≡ true → number_of_word digits ≡ Some a → q ≡ cond negative (negate a) a → Reads is_plus_or_minus read_signed_term (sign_word negative) (digits ∷ name ∷ []) (record { name = name; coefficient = q })
     by_sign true digits name a q named number signed = record { begun = refl; reading = λ rest. rw (named, number, ← signed) refl }
     by_sign false digits name a q named number signed = record { begun = refl; reading = λ rest. rw (named, number, ← signed) refl }
 
 -- the words of a list of terms are read as the terms
-pub terms_read : (ts : List WrittenTerm) → AreReadableTerms ts → (rest : List Word) → stops is_sign rest ≡ true → read_terms (terms_words ts ++ rest) ≡ Some (map term_said ts, rest)
+pub terms_read : (ts : List WrittenTerm) → AreReadableTerms ts → (rest : List Word) → stops is_plus_or_minus rest ≡ true → read_terms (terms_words ts ++ rest) ≡ Some (map term_said ts, rest)
 terms_read [] all rest stop = absurd all
 terms_read (t ∷ ts) all rest stop =
     rw (
       first_term_reads t all.0 (further_terms_words ts ++ rest),
-      read_all-words is_sign read_signed_term (λ (s : WrittenTerm). sign_word s.number.negative) behind_sign term_said ts (each IsReadableTerm (λ (s : WrittenTerm). Reads is_sign read_signed_term (sign_word s.number.negative) (behind_sign s) (term_said s)) further_term_reads ts all.1) rest stop,
+      read_all-words is_plus_or_minus read_signed_term (λ (s : WrittenTerm). sign_word s.number.negative) behind_sign term_said ts (each IsReadableTerm (λ (s : WrittenTerm). Reads is_plus_or_minus read_signed_term (sign_word s.number.negative) (behind_sign s) (term_said s)) further_term_reads ts all.1) rest stop,
     )
     refl
 
 -- rows
 
-relation_reads : (sense : Sense) (terms : List Term) (n : WrittenNumber) → IsReadableNumber n → (rest : List Word) → read_relation terms (sense_word sense ∷ number_text n ∷ rest) ≡ Some (row_by sense terms (number_said n), rest)
+relation_reads : (sense : Sense) (terms : List NamedTerm) (n : WrittenNumber) → IsReadableNumber n → (rest : List Word) → read_relation terms (sense_word sense ∷ number_text n ∷ rest) ≡ Some (row_by sense terms (number_said n), rest)
 relation_reads sense terms n is rest = by_sense sense terms (number_text n) (number_said n) (number_reads n is) rest
   where
-    by_sense : (sense : Sense) (terms : List Term) (word : Word) (q : Rational) → number_of_word word ≡ Some q → (rest : List Word) → read_relation terms (sense_word sense ∷ word ∷ rest) ≡ Some (row_by sense terms q, rest)
+    by_sense : (sense : Sense) (terms : List NamedTerm) (word : Word) (q : Rational) → number_of_word word ≡ Some q → (rest : List Word) → read_relation terms (sense_word sense ∷ word ∷ rest) ≡ Some (row_by sense terms q, rest)
     by_sense AtLeast terms word q e rest = rw e refl
     by_sense AtMost terms word q e rest = rw e refl
     by_sense Equal terms word q e rest = rw e refl
 
-sense_stops : (sense : Sense) (ws : List Word) → stops is_sign (sense_word sense ∷ ws) ≡ true
+sense_stops : (sense : Sense) (ws : List Word) → stops is_plus_or_minus (sense_word sense ∷ ws) ≡ true
 sense_stops AtLeast ws = refl
 sense_stops AtMost ws = refl
 sense_stops Equal ws = refl
@@ -116,7 +116,7 @@ row_reads r is = record {
   reading = λ rest.
       let behind : List Word = sense_word r.sense ∷ number_text r.right ∷ rest in
       ap (λ ws. read_row (r.label ∷ ws)) (append_assoc (terms_words r.terms) (sense_word r.sense ∷ number_text r.right ∷ []) rest)
-      ∙ ap (option_and_then (λ (read : List Term × List Word). read_relation read.0 read.1)) (terms_read r.terms is.terms behind (sense_stops r.sense (number_text r.right ∷ rest)))
+      ∙ ap (option_and_then (λ (read : List NamedTerm × List Word). read_relation read.0 read.1)) (terms_read r.terms is.terms behind (sense_stops r.sense (number_text r.right ∷ rest)))
       ∙ relation_reads r.sense (map term_said r.terms) r.right is.right rest;
 }
 
@@ -134,12 +134,12 @@ bound_said c = bound_by c.name (option_map number_said c.lower) (option_map numb
 
 -- a number is no name and no section word
 
-letter_no_parts : (b : ℕ) (part : List ℕ) (parts : List (List ℕ)) → is_ascii_digit b ≡ false → number_of_parts ((b ∷ part) ∷ parts) ≡ None
+letter_no_parts : (b : ℕ) (part : List ℕ) (parts : List (List ℕ)) → is_ascii_digit b ≡ false → number_around_points ((b ∷ part) ∷ parts) ≡ None
 letter_no_parts b part [] digit = rw digit refl
 letter_no_parts b part (x ∷ []) digit = rw digit refl
 letter_no_parts b part (x ∷ y ∷ parts) digit = refl
 
-onto_parts : (b : ℕ) (parts : List (List ℕ)) → is_ascii_digit b ≡ false → number_of_parts (onto_first b parts) ≡ None
+onto_parts : (b : ℕ) (parts : List (List ℕ)) → is_ascii_digit b ≡ false → number_around_points (onto_first b parts) ≡ None
 onto_parts b [] digit = letter_no_parts b [] [] digit
 onto_parts b (part ∷ parts) digit = letter_no_parts b part parts digit
 
@@ -150,15 +150,15 @@ letter_no_number b bs letter =
     let no_digit : is_ascii_digit b ≡ false = grind (arith, nat_tests) in
     rw (no_minus, no_point) (onto_parts b (slice_split (λ c. c == 46) bs) no_digit)
 
-name_no_number : (w : Word) → is_name w ≡ true → number_of_word w ≡ None
+name_no_number : (w : Word) → is_lp_name w ≡ true → number_of_word w ≡ None
 name_no_number [] name = cc
 name_no_number (b ∷ bs) name =
     letter_no_number b bs (and_parts (is_ascii_alphabetic b) (not (is_among section_words (b ∷ bs))) (and_parts (is_ascii_alphabetic b && not (is_among section_words (b ∷ bs))) (not (bytes_eq (b ∷ bs) (codes "free"))) name).0).0
 
-number_no_name : (w : Word) (q : Rational) → number_of_word w ≡ Some q → is_name w ≡ false
-number_no_name w q number = by_name (is_name w) refl
+number_no_name : (w : Word) (q : Rational) → number_of_word w ≡ Some q → is_lp_name w ≡ false
+number_no_name w q number = by_name (is_lp_name w) refl
   where
-    by_name : (t : Bool) → is_name w ≡ t → t ≡ false
+    by_name : (t : Bool) → is_lp_name w ≡ t → t ≡ false
     by_name true e = let none : number_of_word w ≡ None = name_no_number w e in cc
     by_name false e = refl
 
@@ -181,29 +181,29 @@ number_no_infinity w q number = or_false (number_not_among (codes "-inf" ∷ [])
     or_false : (bytes_eq w (codes "-inf") || false) ≡ false → bytes_eq w (codes "-inf") ≡ false
     or_false e = (or_parts (bytes_eq w (codes "-inf")) false e).0
 
-name_begins_bound : (w : Word) → is_name w ≡ true → begins_bound w ≡ true
+name_begins_bound : (w : Word) → is_lp_name w ≡ true → begins_bound w ≡ true
 name_begins_bound w name =
     (and_parts (is_ascii_alphabetic (slice_index w 0)) (not (is_among section_words w)) (and_parts (is_ascii_alphabetic (slice_index w 0) && not (is_among section_words w)) (not (bytes_eq w (codes "free"))) name).0).1
 
 -- the words of a bound are read as what it says
 
-both_read : (left right name : Word) (l u : Rational) → is_name name ≡ true → number_of_word left ≡ Some l → number_of_word right ≡ Some u → Reads begins_bound read_bound left (codes "<=" ∷ name ∷ codes "<=" ∷ right ∷ []) (Ends name (Some l) (Some u))
+both_read : (left right name : Word) (l u : Rational) → is_lp_name name ≡ true → number_of_word left ≡ Some l → number_of_word right ≡ Some u → Reads begins_bound read_bound left (codes "<=" ∷ name ∷ codes "<=" ∷ right ∷ []) (Ends name (Some l) (Some u))
 both_read left right name l u named low high = record {
   begun = number_begins_bound left l low;
   reading = λ rest. rw (number_no_name left l low, named, number_no_infinity left l low, low, high) refl;
 }
 
-lower_read : (name number : Word) (l : Rational) → is_name name ≡ true → number_of_word number ≡ Some l → Reads begins_bound read_bound name (codes ">=" ∷ number ∷ []) (LowerEnd name l)
+lower_read : (name number : Word) (l : Rational) → is_lp_name name ≡ true → number_of_word number ≡ Some l → Reads begins_bound read_bound name (codes ">=" ∷ number ∷ []) (LowerEnd name l)
 lower_read name number l named low = record { begun = name_begins_bound name named; reading = λ rest. rw (named, low) refl }
 
-upper_read : (name right : Word) (u : Rational) → is_name name ≡ true → number_of_word right ≡ Some u → Reads begins_bound read_bound (codes "-inf") (codes "<=" ∷ name ∷ codes "<=" ∷ right ∷ []) (Ends name None (Some u))
+upper_read : (name right : Word) (u : Rational) → is_lp_name name ≡ true → number_of_word right ≡ Some u → Reads begins_bound read_bound (codes "-inf") (codes "<=" ∷ name ∷ codes "<=" ∷ right ∷ []) (Ends name None (Some u))
 upper_read name right u named high = record { begun = refl; reading = λ rest. rw (named, high) refl }
 
-free_read : (name : Word) → is_name name ≡ true → (rest : List Word) → read_bound (name ∷ codes "free" ∷ rest) ≡ Some (Ends name None None, rest)
+free_read : (name : Word) → is_lp_name name ≡ true → (rest : List Word) → read_bound (name ∷ codes "free" ∷ rest) ≡ Some (Ends name None None, rest)
 free_read name named [] = rw named refl
 free_read name named (w ∷ rest) = rw named refl
 
-ends_read : (name : List ℕ) (lower upper : Option WrittenNumber) → is_name name ≡ true → IsReadableEnd lower → IsReadableEnd upper → Reads begins_bound read_bound (first_of_bound name lower upper) (more_of_bound name lower upper) (bound_by name (option_map number_said lower) (option_map number_said upper))
+ends_read : (name : List ℕ) (lower upper : Option WrittenNumber) → is_lp_name name ≡ true → IsReadableEnd lower → IsReadableEnd upper → Reads begins_bound read_bound (first_of_bound name lower upper) (more_of_bound name lower upper) (bound_by name (option_map number_said lower) (option_map number_said upper))
 ends_read name (Some lower) (Some upper) named low high =
     both_read (number_text lower) (number_text upper) name (number_said lower) (number_said upper) named (number_reads lower low) (number_reads upper high)
 ends_read name (Some lower) None named low high = lower_read name (number_text lower) (number_said lower) named (number_reads lower low)
@@ -214,5 +214,5 @@ pub bound_reads : (c : WrittenColumn) → IsReadableColumn c → Reads begins_bo
 bound_reads c is = ends_read c.name c.lower c.upper is.name.name is.lower is.upper
 
 -- an integer column
-pub general_reads : (c : WrittenColumn) → IsReadableColumn c → Reads is_name read_name c.name [] c.name
+pub general_reads : (c : WrittenColumn) → IsReadableColumn c → Reads is_lp_name read_name c.name [] c.name
 general_reads c is = record { begun = is.name.name; reading = λ rest. refl }

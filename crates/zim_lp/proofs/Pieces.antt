@@ -16,7 +16,7 @@ use Rattle.zim_rows.specs.declared.rows.Sense.TheVariants.{AtLeast, AtMost}
 use Rattle.zim_rows.specs.Program.{LinearProgram}
 use Rattle.zim_rows.specs.Named.{offset_name, has_offset}
 use Rattle.zim_lp.specs.FileText.{WrittenTerm, WrittenColumn, number_text, first_term_text, further_term_text, numbered_text, terms_text, row_text, bound_text, general_text, generals_text, integers, aim_text}
-use Rattle.zim_lp.specs.Text.{short_number, first_name, written_term, or_zero, written_terms, written_objective, row_label, high_label, compared, rows_of_kind, written_row, written_column, written_offset, written_columns, lp_text}
+use Rattle.zim_lp.specs.Text.{short_number, first_name, written_term, or_zero, written_terms, written_objective, row_label, high_label, row_compared, rows_of_kind, written_row, lp_column, written_offset, written_columns, lp_text}
 
 -- numbered members of a list
 
@@ -122,22 +122,22 @@ signed_text false digits = refl
 
 -- the line of a column, if it is integer
 abbrev pub integer_text : ℕ × Column → List ℕ
-integer_text p = cond p.1.integer (general_text (written_column p)) []
+integer_text p = cond p.1.integer (general_text (lp_column p)) []
 
-integer_texts : (first : ℕ) (columns : List Column) → flat_map integer_text (enumerate_from first columns) ≡ flat_map general_text (integers (map written_column (enumerate_from first columns)))
+integer_texts : (first : ℕ) (columns : List Column) → flat_map integer_text (enumerate_from first columns) ≡ flat_map general_text (integers (map lp_column (enumerate_from first columns)))
 integer_texts first [] = refl
 integer_texts first (c ∷ cs) = by_mark c.integer (integer_texts (first + 1) cs)
   where
-    by_mark : (b : Bool) → flat_map integer_text (enumerate_from (first + 1) cs) ≡ flat_map general_text (integers (map written_column (enumerate_from (first + 1) cs))) → cond b (general_text (written_column (first, c))) [] ++ flat_map integer_text (enumerate_from (first + 1) cs) ≡ flat_map general_text (cond b (written_column (first, c) ∷ integers (map written_column (enumerate_from (first + 1) cs))) (integers (map written_column (enumerate_from (first + 1) cs))))
-    by_mark true later = ap (λ rest. general_text (written_column (first, c)) ++ rest) later
+    by_mark : (b : Bool) → flat_map integer_text (enumerate_from (first + 1) cs) ≡ flat_map general_text (integers (map lp_column (enumerate_from (first + 1) cs))) → cond b (general_text (lp_column (first, c))) [] ++ flat_map integer_text (enumerate_from (first + 1) cs) ≡ flat_map general_text (cond b (lp_column (first, c) ∷ integers (map lp_column (enumerate_from (first + 1) cs))) (integers (map lp_column (enumerate_from (first + 1) cs))))
+    by_mark true later = ap (λ rest. general_text (lp_column (first, c)) ++ rest) later
     by_mark false later = later
 
 -- without an integer column there is no heading
-pub no_integers : (first : ℕ) (columns : List Column) → list_any (λ (c : Column). c.integer) columns ≡ false → integers (map written_column (enumerate_from first columns)) ≡ []
+pub no_integers : (first : ℕ) (columns : List Column) → list_any (λ (c : Column). c.integer) columns ≡ false → integers (map lp_column (enumerate_from first columns)) ≡ []
 no_integers first [] none = refl
 no_integers first (c ∷ cs) none = by_mark c.integer none (no_integers (first + 1) cs)
   where
-    by_mark : (b : Bool) → (b || list_any (λ (d : Column). d.integer) cs) ≡ false → (list_any (λ (d : Column). d.integer) cs ≡ false → integers (map written_column (enumerate_from (first + 1) cs)) ≡ []) → cond b (written_column (first, c) ∷ integers (map written_column (enumerate_from (first + 1) cs))) (integers (map written_column (enumerate_from (first + 1) cs))) ≡ []
+    by_mark : (b : Bool) → (b || list_any (λ (d : Column). d.integer) cs) ≡ false → (list_any (λ (d : Column). d.integer) cs ≡ false → integers (map lp_column (enumerate_from (first + 1) cs)) ≡ []) → cond b (lp_column (first, c) ∷ integers (map lp_column (enumerate_from (first + 1) cs))) (integers (map lp_column (enumerate_from (first + 1) cs))) ≡ []
     by_mark true none later = cc
     by_mark false none later = later none
 
@@ -145,21 +145,21 @@ headed : (cs : List WrittenColumn) → (cs ≡ [] → ⊥) → codes "Generals\n
 headed [] some = absurd (some refl)
 headed (c ∷ cs) some = refl
 
-some_integers : (first : ℕ) (columns : List Column) → list_any (λ (c : Column). c.integer) columns ≡ true → integers (map written_column (enumerate_from first columns)) ≡ [] → ⊥
+some_integers : (first : ℕ) (columns : List Column) → list_any (λ (c : Column). c.integer) columns ≡ true → integers (map lp_column (enumerate_from first columns)) ≡ [] → ⊥
 some_integers first [] some none = cc
 some_integers first (c ∷ cs) some none = by_mark c.integer some none (some_integers (first + 1) cs)
   where
-    by_mark : (b : Bool) → (b || list_any (λ (d : Column). d.integer) cs) ≡ true → cond b (written_column (first, c) ∷ integers (map written_column (enumerate_from (first + 1) cs))) (integers (map written_column (enumerate_from (first + 1) cs))) ≡ [] → (list_any (λ (d : Column). d.integer) cs ≡ true → integers (map written_column (enumerate_from (first + 1) cs)) ≡ [] → ⊥) → ⊥
+    by_mark : (b : Bool) → (b || list_any (λ (d : Column). d.integer) cs) ≡ true → cond b (lp_column (first, c) ∷ integers (map lp_column (enumerate_from (first + 1) cs))) (integers (map lp_column (enumerate_from (first + 1) cs))) ≡ [] → (list_any (λ (d : Column). d.integer) cs ≡ true → integers (map lp_column (enumerate_from (first + 1) cs)) ≡ [] → ⊥) → ⊥
     by_mark true some none later = cc
     by_mark false some none later = later some none
 
 -- the heading and the lines of the integer columns
-pub generals_in_two : (columns : List Column) → list_any (λ (c : Column). c.integer) columns ≡ true → codes "Generals\n" ++ flat_map integer_text (enumerate_from 1 columns) ≡ generals_text (integers (map written_column (enumerate_from 1 columns)))
+pub generals_in_two : (columns : List Column) → list_any (λ (c : Column). c.integer) columns ≡ true → codes "Generals\n" ++ flat_map integer_text (enumerate_from 1 columns) ≡ generals_text (integers (map lp_column (enumerate_from 1 columns)))
 generals_in_two columns some =
     ap (λ rest. codes "Generals\n" ++ rest) (integer_texts 1 columns)
-    ∙ headed (integers (map written_column (enumerate_from 1 columns))) (some_integers 1 columns some)
+    ∙ headed (integers (map lp_column (enumerate_from 1 columns))) (some_integers 1 columns some)
 
-pub no_generals : (columns : List Column) → list_any (λ (c : Column). c.integer) columns ≡ false → [] ≡ generals_text (integers (map written_column (enumerate_from 1 columns)))
+pub no_generals : (columns : List Column) → list_any (λ (c : Column). c.integer) columns ≡ false → [] ≡ generals_text (integers (map lp_column (enumerate_from 1 columns)))
 no_generals columns none = ap generals_text (sym (no_integers 1 columns none))
 
 -- the file
@@ -169,41 +169,41 @@ abbrev pub row_lines : ℕ → ℕ × Row → List ℕ
 row_lines columns p = flat_map row_text (written_row columns p)
 
 -- the two lines of a range
-pub range_lines : (columns number : ℕ) (row : Row) (low high : Rational) → row.kind ≡ Range low high → row_text (compared (row_label number) (written_terms columns row.terms) AtLeast low) ++ row_text (compared (high_label number) (written_terms columns row.terms) AtMost high) ≡ row_lines columns (number, row)
+pub range_lines : (columns number : ℕ) (row : Row) (low high : Rational) → row.kind ≡ Range low high → row_text (row_compared (row_label number) (written_terms columns row.terms) AtLeast low) ++ row_text (row_compared (high_label number) (written_terms columns row.terms) AtMost high) ≡ row_lines columns (number, row)
 range_lines columns number row low high is =
     ap
-    (λ rest. row_text (compared (row_label number) (written_terms columns row.terms) AtLeast low) ++ rest)
-    (sym (append-nil (row_text (compared (high_label number) (written_terms columns row.terms) AtMost high))))
+    (λ rest. row_text (row_compared (row_label number) (written_terms columns row.terms) AtLeast low) ++ rest)
+    (sym (append-nil (row_text (row_compared (high_label number) (written_terms columns row.terms) AtMost high))))
     ∙ ap (λ kind. flat_map row_text (rows_of_kind number (written_terms columns row.terms) kind)) (sym is)
 
 -- the bound of a numbered column
 abbrev pub numbered_bound : ℕ × Column → List ℕ
-numbered_bound p = bound_text (written_column p)
+numbered_bound p = bound_text (lp_column p)
 
 offset_is_real : (b : Bool) → integers (cond b (written_offset ∷ []) []) ≡ []
 offset_is_real true = refl
 offset_is_real false = refl
 
 -- the column `one` isn't integer
-integers_but_offset : (p : LinearProgram) → integers (map written_column (enumerate_from 1 p.columns)) ≡ integers (written_columns p)
+integers_but_offset : (p : LinearProgram) → integers (map lp_column (enumerate_from 1 p.columns)) ≡ integers (written_columns p)
 integers_but_offset p =
     sym
-    (filter-append (λ (c : WrittenColumn). c.integer) (map written_column (enumerate_from 1 p.columns)) (cond (has_offset p) (written_offset ∷ []) [])
-    ∙ ap (λ cs. integers (map written_column (enumerate_from 1 p.columns)) ++ cs) (offset_is_real (has_offset p))
-    ∙ append-nil (integers (map written_column (enumerate_from 1 p.columns))))
+    (filter-append (λ (c : WrittenColumn). c.integer) (map lp_column (enumerate_from 1 p.columns)) (cond (has_offset p) (written_offset ∷ []) [])
+    ∙ ap (λ cs. integers (map lp_column (enumerate_from 1 p.columns)) ++ cs) (offset_is_real (has_offset p))
+    ∙ append-nil (integers (map lp_column (enumerate_from 1 p.columns))))
 
 bounds_in_two : (p : LinearProgram) (rest : List ℕ) → flat_map numbered_bound (enumerate_from 1 p.columns) ++ (flat_map bound_text (cond (has_offset p) (written_offset ∷ []) []) ++ rest) ≡ flat_map bound_text (written_columns p) ++ rest
 bounds_in_two p rest =
     sym (append_assoc (flat_map numbered_bound (enumerate_from 1 p.columns)) (flat_map bound_text (cond (has_offset p) (written_offset ∷ []) [])) rest)
     ∙ ap
     (λ bounds. bounds ++ rest)
-    (ap (λ first. first ++ flat_map bound_text (cond (has_offset p) (written_offset ∷ []) [])) (flat_map_mapped bound_text written_column (enumerate_from 1 p.columns))
-    ∙ sym (flat_map_append bound_text (map written_column (enumerate_from 1 p.columns)) (cond (has_offset p) (written_offset ∷ []) [])))
+    (ap (λ first. first ++ flat_map bound_text (cond (has_offset p) (written_offset ∷ []) [])) (flat_map_mapped bound_text lp_column (enumerate_from 1 p.columns))
+    ∙ sym (flat_map_append bound_text (map lp_column (enumerate_from 1 p.columns)) (cond (has_offset p) (written_offset ∷ []) [])))
 
 -- the text of a program as it is put
-pub text_in_pieces : (p : LinearProgram) → codes "\\ zimplc\n" ++ (aim_text p.target.maximize ++ (codes " obj: " ++ (terms_text (written_objective (length p.columns) p.target.terms p.target.constant) ++ (codes "\nSubject To\n" ++ (flat_map (row_lines (length p.columns)) (enumerate_from 1 p.rows) ++ (codes "Bounds\n" ++ (flat_map numbered_bound (enumerate_from 1 p.columns) ++ (flat_map bound_text (cond (has_offset p) (written_offset ∷ []) []) ++ (generals_text (integers (map written_column (enumerate_from 1 p.columns))) ++ codes "End\n"))))))))) ≡ lp_text p
+pub text_in_pieces : (p : LinearProgram) → codes "\\ zimplc\n" ++ (aim_text p.target.maximize ++ (codes " obj: " ++ (terms_text (written_objective (length p.columns) p.target.terms p.target.constant) ++ (codes "\nSubject To\n" ++ (flat_map (row_lines (length p.columns)) (enumerate_from 1 p.rows) ++ (codes "Bounds\n" ++ (flat_map numbered_bound (enumerate_from 1 p.columns) ++ (flat_map bound_text (cond (has_offset p) (written_offset ∷ []) []) ++ (generals_text (integers (map lp_column (enumerate_from 1 p.columns))) ++ codes "End\n"))))))))) ≡ lp_text p
 text_in_pieces p =
-    let end : List ℕ = generals_text (integers (map written_column (enumerate_from 1 p.columns))) ++ codes "End\n" in
+    let end : List ℕ = generals_text (integers (map lp_column (enumerate_from 1 p.columns))) ++ codes "End\n" in
     ap
     (λ rest. codes "\\ zimplc\n" ++ (aim_text p.target.maximize ++ (codes " obj: " ++ (terms_text (written_objective (length p.columns) p.target.terms p.target.constant) ++ (codes "\nSubject To\n" ++ rest)))))
     (ap₂

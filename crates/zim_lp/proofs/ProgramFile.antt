@@ -22,19 +22,19 @@ use Rattle.zim_rows.proofs.NamedLaws.{file_columns_distinct}
 use Rattle.zim_lp.specs.Words.{Word}
 use Rattle.zim_lp.specs.Program.{is_among}
 use Rattle.zim_lp.specs.FileText.{WrittenTerm, WrittenRow, WrittenColumn}
-use Rattle.zim_lp.specs.Text.{short_number, first_name, written_term, or_zero, written_terms, offset_term, written_objective, rows_of_kind, written_row, written_rows, written_column, written_offset, written_columns, written_file}
+use Rattle.zim_lp.specs.Text.{short_number, first_name, written_term, or_zero, written_terms, offset_term, written_objective, rows_of_kind, written_row, written_rows, lp_column, written_offset, written_columns, written_file}
 use Rattle.zim_lp.proofs.Readable.{term_said, row_said, system_said, IsReadableTerm, IsReadableColumn, column_names, AreOver, IsReadableFile}
 use Rattle.zim_lp.proofs.Meaning.{among_append}
 use Rattle.zim_lp.proofs.ProgramParts.{all_append, IsFileTerm, IsFileRow, file_terms, terms_readable, or_zero_readable, offset_term_readable, or_named_zero, named_offset, objective_same, each_file_row, rows_readable, file_row, rows_same, columns_readable, offset_column_readable, columns_said}
 
 -- each term is over a column
 
-numbered_among : (first : ℕ) (columns : List Column) (j : ℕ) → first ≤ j → j < first + length columns → is_among (column_names (map written_column (enumerate_from first columns))) (column_name j) ≡ true
+numbered_among : (first : ℕ) (columns : List Column) (j : ℕ) → first ≤ j → j < first + length columns → is_among (column_names (map lp_column (enumerate_from first columns))) (column_name j) ≡ true
 numbered_among first [] j low high = absurd (omega arith)
 numbered_among first (c ∷ cs) j low high =
     by_first (bytes_eq (column_name j) (column_name first)) refl (λ above. numbered_among (first + 1) cs j above (omega arith))
   where
-    by_first : (t : Bool) → bytes_eq (column_name j) (column_name first) ≡ t → (first + 1 ≤ j → is_among (column_names (map written_column (enumerate_from (first + 1) cs))) (column_name j) ≡ true) → (t || is_among (column_names (map written_column (enumerate_from (first + 1) cs))) (column_name j)) ≡ true
+    by_first : (t : Bool) → bytes_eq (column_name j) (column_name first) ≡ t → (first + 1 ≤ j → is_among (column_names (map lp_column (enumerate_from (first + 1) cs))) (column_name j) ≡ true) → (t || is_among (column_names (map lp_column (enumerate_from (first + 1) cs))) (column_name j)) ≡ true
     by_first true e later = refl
     by_first false e later = later (let other : j ≢ first = λ same. different j first e same in omega arith)
       where
@@ -43,12 +43,12 @@ numbered_among first (c ∷ cs) j low high =
             let equal : bytes_eq (column_name i) (column_name k) ≡ true = subst (λ m. bytes_eq (column_name i) (column_name m) ≡ true) same (bytes_eq-same (column_name i)) in cc
 
 -- the names of a file's columns, in two parts
-names_in_parts : (p : LinearProgram) (w : Word) → is_among (column_names (written_columns p)) w ≡ (is_among (column_names (map written_column (enumerate_from 1 p.columns))) w || is_among (column_names (cond (has_offset p) (written_offset ∷ []) [])) w)
+names_in_parts : (p : LinearProgram) (w : Word) → is_among (column_names (written_columns p)) w ≡ (is_among (column_names (map lp_column (enumerate_from 1 p.columns))) w || is_among (column_names (cond (has_offset p) (written_offset ∷ []) [])) w)
 names_in_parts p w =
     ap
     (λ names. is_among names w)
-    (map-append (λ (c : WrittenColumn). c.name) (map written_column (enumerate_from 1 p.columns)) (cond (has_offset p) (written_offset ∷ []) []))
-    ∙ among_append (column_names (map written_column (enumerate_from 1 p.columns))) (column_names (cond (has_offset p) (written_offset ∷ []) [])) w
+    (map-append (λ (c : WrittenColumn). c.name) (map lp_column (enumerate_from 1 p.columns)) (cond (has_offset p) (written_offset ∷ []) []))
+    ∙ among_append (column_names (map lp_column (enumerate_from 1 p.columns))) (column_names (cond (has_offset p) (written_offset ∷ []) [])) w
 
 or_left : (a b : Bool) → a ≡ true → (a || b) ≡ true
 or_left a b e = rw e refl
@@ -61,7 +61,7 @@ column_among : (p : LinearProgram) (j : ℕ) → 0 < j → j ≤ length p.column
 column_among p j low high =
     names_in_parts p (column_name j)
     ∙ or_left
-    (is_among (column_names (map written_column (enumerate_from 1 p.columns))) (column_name j))
+    (is_among (column_names (map lp_column (enumerate_from 1 p.columns))) (column_name j))
     (is_among (column_names (cond (has_offset p) (written_offset ∷ []) [])) (column_name j))
     (numbered_among 1 p.columns j (omega arith) (omega arith))
 
@@ -69,7 +69,7 @@ offset_among : (p : LinearProgram) → has_offset p ≡ true → is_among (colum
 offset_among p stands =
     names_in_parts p offset_name
     ∙ or_right
-    (is_among (column_names (map written_column (enumerate_from 1 p.columns))) offset_name)
+    (is_among (column_names (map lp_column (enumerate_from 1 p.columns))) offset_name)
     (is_among (column_names (cond (has_offset p) (written_offset ∷ []) [])) offset_name)
     (ap (λ b. is_among (column_names (cond b (written_offset ∷ []) [])) offset_name) stands)
 
@@ -155,14 +155,14 @@ program_readable p is =
       columns =
           all_append
           IsReadableColumn
-          (map written_column (enumerate_from 1 p.columns))
+          (map lp_column (enumerate_from 1 p.columns))
           (cond (has_offset p) (written_offset ∷ []) [])
           (columns_readable 1 p.columns (omega arith) parts.columns)
           (offset_column_readable (has_offset p));
       distinct = subst HasDistinctNames (sym (columns_said p parts.columns)) (file_columns_distinct p is);
     }
 
-system_by : Bool → List NamedColumn → List instance.Row → List instance.Term → System
+system_by : Bool → List NamedColumn → List instance.Row → List instance.NamedTerm → System
 system_by maximises columns rows objective = record { columns = columns; rows = rows; objective = objective; maximises = maximises }
 
 -- the system of the file's parts
@@ -173,6 +173,6 @@ system_same p is =
     let n : ℕ = length p.columns in
     ap (λ cs. system_by p.target.maximize cs (map row_said (written_rows n p.rows)) (map term_said (written_objective n p.target.terms p.target.constant))) (columns_said p parts.columns)
     ∙ ap₂
-    (λ (rs : List instance.Row) (ts : List instance.Term). system_by p.target.maximize (file_columns p) rs ts)
+    (λ (rs : List instance.Row) (ts : List instance.NamedTerm). system_by p.target.maximize (file_columns p) rs ts)
     (rows_same n 1 p.rows parts.rows)
     (objective_same n p.target.terms p.target.constant parts.objective is.objective.short_constant is.objective.constant_within)

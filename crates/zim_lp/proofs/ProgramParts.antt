@@ -26,7 +26,7 @@ use Rattle.zim_rows.specs.Named.{column_name, row_name, offset_name, has_offset,
 use Rattle.zim_lp.specs.Words.{Word}
 use Rattle.zim_lp.specs.Syntax.{is_label}
 use Rattle.zim_lp.specs.FileText.{WrittenTerm}
-use Rattle.zim_lp.specs.Text.{short_number, first_name, written_term, or_zero, written_terms, offset_term, written_objective, row_label, high_label, compared, rows_of_kind, written_row, written_column, written_offset, written_columns}
+use Rattle.zim_lp.specs.Text.{short_number, first_name, written_term, or_zero, written_terms, offset_term, written_objective, row_label, high_label, row_compared, rows_of_kind, written_row, lp_column, written_offset, written_columns}
 use Rattle.zim_lp.proofs.Cutting.{IsWord}
 use Rattle.zim_lp.proofs.Numbers.{IsNumber-short, decimal_word, plain_append}
 use Rattle.zim_lp.proofs.Readable.{number_said, term_said, row_by, row_said, column_said, IsReadableNumber, IsReadableNumber-from, number_said-is, IsReadableName, IsReadableTerm, AreReadableTerms, IsReadableRow, IsReadableEnd, IsReadableColumn}
@@ -141,21 +141,21 @@ offset_term_readable c short within = by_test (same c rational.zero)
     by_test false = (record { number = short_readable c short within; name = offset_readable }, tt)
 
 -- the terms by name, as the file has them: without any, 0 times its first column
-abbrev pub or_named_zero : ℕ → List instance.Term → List instance.Term
+abbrev pub or_named_zero : ℕ → List instance.NamedTerm → List instance.NamedTerm
 or_named_zero n [] = record { name = first_name n; coefficient = rational.zero } ∷ []
 or_named_zero n (t ∷ ts) = t ∷ ts
 
 -- the constant by name
-abbrev pub named_offset : Rational → List instance.Term
+abbrev pub named_offset : Rational → List instance.NamedTerm
 named_offset c = cond (same c rational.zero) [] (record { name = offset_name; coefficient = c } ∷ [])
 
 term_same : (name : Word) (q : Rational) → IsTrue (is_short q) → IsWithin q → term_said (record { number = short_number q; name = name }) ≡ record { name = name; coefficient = q }
-term_same name q short within = ap (λ r. let t : instance.Term = record { name = name; coefficient = r } in t) (short_said q short within)
+term_same name q short within = ap (λ r. let t : instance.NamedTerm = record { name = name; coefficient = r } in t) (short_said q short within)
 
 each_term_same : (n : ℕ) (ts : List Term) → AllByRecursion (IsFileTerm n) ts → map term_said (map written_term ts) ≡ map named_term ts
 each_term_same n [] all = refl
 each_term_same n (t ∷ ts) all =
-    ap₂ (λ (s : instance.Term) (rest : List instance.Term). s ∷ rest) (term_same (column_name t.0) t.1 all.0.short all.0.within) (each_term_same n ts all.1)
+    ap₂ (λ (s : instance.NamedTerm) (rest : List instance.NamedTerm). s ∷ rest) (term_same (column_name t.0) t.1 all.0.short all.0.within) (each_term_same n ts all.1)
 
 offset_same : (c : Rational) → IsTrue (is_short c) → IsWithin c → map term_said (offset_term c) ≡ named_offset c
 offset_same c short within = by_test (same c rational.zero)
@@ -177,7 +177,7 @@ objective_same n ts c all short within =
     ∙ ap
     (or_named_zero n)
     (map-append term_said (map written_term ts) (offset_term c)
-    ∙ ap₂ (λ (xs ys : List instance.Term). xs ++ ys) (each_term_same n ts all) (offset_same c short within))
+    ∙ ap₂ (λ (xs ys : List instance.NamedTerm). xs ++ ys) (each_term_same n ts all) (offset_same c short within))
 
 -- rows
 
@@ -192,7 +192,7 @@ each_file_row n [] are = tt
 each_file_row n (row ∷ rows) are =
     (record { terms = file_terms n row.terms are.0.columns are.0.short are.0.terms_within; short = are.0.kind; within = are.0.kind_within }, each_file_row n rows are.1)
 
-compared_readable : (label : Word) (terms : List WrittenTerm) (sense : Sense) (right : Rational) → IsWord label → is_label label ≡ true → AreReadableTerms terms → IsTrue (is_short right) → IsWithin right → IsReadableRow (compared label terms sense right)
+compared_readable : (label : Word) (terms : List WrittenTerm) (sense : Sense) (right : Rational) → IsWord label → is_label label ≡ true → AreReadableTerms terms → IsTrue (is_short right) → IsWithin right → IsReadableRow (row_compared label terms sense right)
 compared_readable label terms sense right word is readable short within =
     record { word = word; label = is; terms = readable; right = short_readable right short within }
 
@@ -215,7 +215,7 @@ rows_readable n first h (row ∷ rows) room all =
     (rows_readable n (first + 1) h rows (omega arith) all.1)
 
 -- the rows that a file has for terms by name and a kind
-abbrev pub rows_by : List instance.Term → RowKind → List instance.Row
+abbrev pub rows_by : List instance.NamedTerm → RowKind → List instance.Row
 rows_by terms (One sense right) = row_by sense terms right ∷ []
 rows_by terms (Range low high) = row_by AtLeast terms low ∷ row_by AtMost terms high ∷ []
 
@@ -223,10 +223,10 @@ rows_by terms (Range low high) = row_by AtLeast terms low ∷ row_by AtMost term
 abbrev pub file_row : ℕ → Row → List instance.Row
 file_row n row = rows_by (or_named_zero n (map named_term row.terms)) row.kind
 
-compared_same : (label : Word) (terms : List WrittenTerm) (named : List instance.Term) (sense : Sense) (right : Rational) → map term_said terms ≡ named → IsTrue (is_short right) → IsWithin right → row_said (compared label terms sense right) ≡ row_by sense named right
-compared_same label terms named sense right e short within = ap₂ (λ (ts : List instance.Term) (q : Rational). row_by sense ts q) e (short_said right short within)
+compared_same : (label : Word) (terms : List WrittenTerm) (named : List instance.NamedTerm) (sense : Sense) (right : Rational) → map term_said terms ≡ named → IsTrue (is_short right) → IsWithin right → row_said (row_compared label terms sense right) ≡ row_by sense named right
+compared_same label terms named sense right e short within = ap₂ (λ (ts : List instance.NamedTerm) (q : Rational). row_by sense ts q) e (short_said right short within)
 
-kind_same : (number : ℕ) (terms : List WrittenTerm) (named : List instance.Term) (kind : RowKind) → map term_said terms ≡ named → IsShortKind kind → IsKindWithin kind → map row_said (rows_of_kind number terms kind) ≡ rows_by named kind
+kind_same : (number : ℕ) (terms : List WrittenTerm) (named : List instance.NamedTerm) (kind : RowKind) → map term_said terms ≡ named → IsShortKind kind → IsKindWithin kind → map row_said (rows_of_kind number terms kind) ≡ rows_by named kind
 kind_same number terms named (One sense right) e short within =
     ap (λ r. r ∷ []) (compared_same (row_label number) terms named sense right e short within)
 kind_same number terms named (Range low high) e short within =
@@ -262,7 +262,7 @@ side_same (Some q) within = by_test (is_short q) refl
     by_test true short = ap (λ r. Some r) (short_said q short within)
     by_test false short = refl
 
-pub columns_readable : (first : ℕ) (columns : List Column) → first + length columns ≤ 2 ^ 64 → AllByRecursion HasSidesWithin columns → AllByRecursion IsReadableColumn (map written_column (enumerate_from first columns))
+pub columns_readable : (first : ℕ) (columns : List Column) → first + length columns ≤ 2 ^ 64 → AllByRecursion HasSidesWithin columns → AllByRecursion IsReadableColumn (map lp_column (enumerate_from first columns))
 columns_readable first [] room all = tt
 columns_readable first (c ∷ cs) room all =
     (record { name = column_readable first (omega arith); lower = side_readable c.sides.low all.0.low; upper = side_readable c.sides.high all.0.high }, columns_readable (first + 1) cs (omega arith) all.1)
@@ -272,14 +272,14 @@ offset_column_readable true =
     (record { name = offset_readable; lower = short_readable rational.one one_short one_within; upper = short_readable rational.one one_short one_within }, tt)
 offset_column_readable false = tt
 
-column_same : (j : ℕ) (c : Column) → HasSidesWithin c → column_said (written_column (j, c)) ≡ named_column (j, c)
+column_same : (j : ℕ) (c : Column) → HasSidesWithin c → column_said (lp_column (j, c)) ≡ named_column (j, c)
 column_same j c within =
     ap₂
     (λ (low high : Option Rational). let d : NamedColumn = record { name = column_name j; column = record { integer = c.integer; lower = low; upper = high } } in d)
     (side_same c.sides.low within.low)
     (side_same c.sides.high within.high)
 
-columns_same : (first : ℕ) (columns : List Column) → AllByRecursion HasSidesWithin columns → map column_said (map written_column (enumerate_from first columns)) ≡ map named_column (enumerate_from first columns)
+columns_same : (first : ℕ) (columns : List Column) → AllByRecursion HasSidesWithin columns → map column_said (map lp_column (enumerate_from first columns)) ≡ map named_column (enumerate_from first columns)
 columns_same first [] all = refl
 columns_same first (c ∷ cs) all =
     ap₂ (λ (d : NamedColumn) (ds : List NamedColumn). d ∷ ds) (column_same first c all.0) (columns_same (first + 1) cs all.1)
@@ -292,5 +292,5 @@ offset_column_same false = refl
 -- the columns of a program's file
 pub columns_said : (p : LinearProgram) → AllByRecursion HasSidesWithin p.columns → map column_said (written_columns p) ≡ file_columns p
 columns_said p all =
-    map-append column_said (map written_column (enumerate_from 1 p.columns)) (cond (has_offset p) (written_offset ∷ []) [])
+    map-append column_said (map lp_column (enumerate_from 1 p.columns)) (cond (has_offset p) (written_offset ∷ []) [])
     ∙ ap₂ (λ (cs ds : List NamedColumn). cs ++ ds) (columns_same 1 p.columns all) (offset_column_same (has_offset p))

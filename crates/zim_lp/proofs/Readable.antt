@@ -4,14 +4,14 @@ use Rattle.std.proofs.Common.{◌≡◌, true, List, [], ◌∷◌, map, Option,
 use Rattle.std.specs.Prelude.{⊤, option_map}
 use Rattle.std.specs.List.{AllByRecursion}
 use Rattle.zim_rational.specs.Rational.{Rational, zero}
-use Rattle.zim_instance.specs.Instance.{Term, Row}
+use Rattle.zim_instance.specs.Instance.{NamedTerm, Row}
 use Rattle.zim_instance.specs.System.{NamedColumn, System, HasDistinctNames}
 use Rattle.zim_rows.specs.declared.rows.Sense.{Sense}
 use Rattle.zim_rows.specs.declared.rows.Sense.TheVariants.{AtLeast, AtMost, Equal}
 use Rattle.zim_lp.specs.Words.{Word}
 use Rattle.zim_lp.specs.Numerals.{number_of_word}
 use Rattle.zim_lp.specs.Program.{is_among}
-use Rattle.zim_lp.specs.Syntax.{is_name, is_label}
+use Rattle.zim_lp.specs.Syntax.{is_lp_name, is_label}
 use Rattle.zim_lp.specs.FileText.{WrittenNumber, WrittenTerm, WrittenRow, WrittenColumn, WrittenFile, number_text}
 use Rattle.zim_lp.proofs.Cutting.{IsWord}
 use Rattle.zim_lp.proofs.Numbers.{IsNumber, reads_number}
@@ -21,11 +21,11 @@ use Rattle.zim_lp.proofs.Numbers.{IsNumber, reads_number}
 abbrev pub number_said : WrittenNumber → Rational
 number_said n = unwrap_or (number_of_word (number_text n)) zero
 
-abbrev pub term_said : WrittenTerm → Term
+abbrev pub term_said : WrittenTerm → NamedTerm
 term_said t = record { name = t.name; coefficient = number_said t.number }
 
 -- the row that a relation and a right side make of terms
-abbrev pub row_by : Sense → List Term → Rational → Row
+abbrev pub row_by : Sense → List NamedTerm → Rational → Row
 row_by AtLeast terms right = record { terms = terms; low = Some right; high = None }
 row_by AtMost terms right = record { terms = terms; low = None; high = Some right }
 row_by Equal terms right = record { terms = terms; low = Some right; high = Some right }
@@ -54,7 +54,7 @@ IsReadableNumber n = IsNumber n (number_said n)
 
 pub record IsReadableName (w : Word) : Type 0 where
   pub word : IsWord w
-  pub name : is_name w ≡ true
+  pub name : is_lp_name w ≡ true
 
 pub record IsReadableTerm (t : WrittenTerm) : Type 0 where
   pub number : IsReadableNumber t.number

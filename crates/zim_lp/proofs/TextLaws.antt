@@ -7,7 +7,7 @@ use Rattle.zim_rational.specs.Rational.{Rational, zero, plus, times, total, same
 use Rattle.zim_rational.proofs.Ring.{zero_times, plus_zero}
 use Rattle.zim_rational.proofs.Whole.{same_Decides}
 use Rattle.zim_instance.specs.Instance as instance
-use Rattle.zim_instance.specs.Instance.{Instance, Point, IsFrom, IsUpTo, KeepsRow, number_at, sum_at}
+use Rattle.zim_instance.specs.Instance.{Instance, Point, IsFrom, IsUpTo, KeepsRow, number_named, sum_of_named}
 use Rattle.zim_instance.specs.System.{Says}
 use Rattle.zim_rows.specs.declared.rows.Row.{Row}
 use Rattle.zim_rows.specs.declared.rows.RowKind.{RowKind}
@@ -27,49 +27,49 @@ use Rattle.zim_lp.proofs.ProgramFile.{file_system, program_readable, system_same
 
 -- sums of terms
 
-or_zero_sum : (n : ℕ) (point : Point) (ts : List instance.Term) → sum_at point (or_named_zero n ts) ≡ sum_at point ts
+or_zero_sum : (n : ℕ) (point : Point) (ts : List instance.NamedTerm) → sum_of_named point (or_named_zero n ts) ≡ sum_of_named point ts
 unfolding total
 or_zero_sum n point [] =
-    plus_zero (times zero (number_at point (first_name n))) ∙ zero_times (number_at point (first_name n))
+    plus_zero (times zero (number_named point (first_name n))) ∙ zero_times (number_named point (first_name n))
 or_zero_sum n point (t ∷ ts) = refl
 
 -- a constant 0 times a column is as no term
-no_term : (name : List ℕ) (c : Rational) (point : Point) (ts : List instance.Term) → c ≡ zero → sum_at point ts ≡ sum_at point (ts ++ (record { name = name; coefficient = c } ∷ []))
+no_term : (name : List ℕ) (c : Rational) (point : Point) (ts : List instance.NamedTerm) → c ≡ zero → sum_of_named point ts ≡ sum_of_named point (ts ++ (record { name = name; coefficient = c } ∷ []))
 unfolding total
 no_term name c point ts none =
     sym
     (sum_at_both point ts (record { name = name; coefficient = c } ∷ [])
-    ∙ ap (λ q. plus (sum_at point ts) q) (plus_zero (times c (number_at point name)) ∙ ap (λ q. times q (number_at point name)) none ∙ zero_times (number_at point name))
-    ∙ plus_zero (sum_at point ts))
+    ∙ ap (λ q. plus (sum_of_named point ts) q) (plus_zero (times c (number_named point name)) ∙ ap (λ q. times q (number_named point name)) none ∙ zero_times (number_named point name))
+    ∙ plus_zero (sum_of_named point ts))
 
 -- the constant of an objective, whether it is written or not
-offset_sum : (p : LinearProgram) (point : Point) (ts : List instance.Term) → sum_at point (ts ++ named_offset p.target.constant) ≡ sum_at point (ts ++ cond (has_offset p) (record { name = offset_name; coefficient = p.target.constant } ∷ []) [])
+offset_sum : (p : LinearProgram) (point : Point) (ts : List instance.NamedTerm) → sum_of_named point (ts ++ named_offset p.target.constant) ≡ sum_of_named point (ts ++ cond (has_offset p) (record { name = offset_name; coefficient = p.target.constant } ∷ []) [])
 offset_sum p point ts = by_test (length p.columns == 0) (same p.target.constant zero) refl
   where
-    offset : List instance.Term
+    offset : List instance.NamedTerm
     offset = record { name = offset_name; coefficient = p.target.constant } ∷ []
 
-    by_test : (none zeros : Bool) → same p.target.constant zero ≡ zeros → sum_at point (ts ++ cond zeros [] offset) ≡ sum_at point (ts ++ cond (none || not zeros) offset [])
+    by_test : (none zeros : Bool) → same p.target.constant zero ≡ zeros → sum_of_named point (ts ++ cond zeros [] offset) ≡ sum_of_named point (ts ++ cond (none || not zeros) offset [])
     by_test true true e =
-        ap (λ us. sum_at point us) (append-nil ts) ∙ no_term offset_name p.target.constant point ts ((same_Decides p.target.constant zero).0 e)
+        ap (λ us. sum_of_named point us) (append-nil ts) ∙ no_term offset_name p.target.constant point ts ((same_Decides p.target.constant zero).0 e)
     by_test false true e = refl
     by_test true false e = refl
     by_test false false e = refl
 
-objective_sum : (p : LinearProgram) (point : Point) → sum_at point (or_named_zero (length p.columns) (map named_term p.target.terms ++ named_offset p.target.constant)) ≡ sum_at point (named_objective p)
+objective_sum : (p : LinearProgram) (point : Point) → sum_of_named point (or_named_zero (length p.columns) (map named_term p.target.terms ++ named_offset p.target.constant)) ≡ sum_of_named point (named_objective p)
 objective_sum p point =
     or_zero_sum (length p.columns) point (map named_term p.target.terms ++ named_offset p.target.constant)
     ∙ offset_sum p point (map named_term p.target.terms)
 
 -- rows
 
-keeps_same : (point : Point) (a b : List instance.Term) (low high : Option Rational) → sum_at point a ≡ sum_at point b → KeepsRow point (record { terms = a; low = low; high = high }) → KeepsRow point (record { terms = b; low = low; high = high })
+keeps_same : (point : Point) (a b : List instance.NamedTerm) (low high : Option Rational) → sum_of_named point a ≡ sum_of_named point b → KeepsRow point (record { terms = a; low = low; high = high }) → KeepsRow point (record { terms = b; low = low; high = high })
 keeps_same point a b low high e k = record { low = subst (λ q. IsFrom low q) e k.low; high = subst (λ q. IsUpTo high q) e k.high }
 
-same_row : (point : Point) (a b : List instance.Term) (low high : Option Rational) → sum_at point a ≡ sum_at point b → AllByRecursion (KeepsRow point) (record { terms = a; low = low; high = high } ∷ []) ↔ KeepsRow point (record { terms = b; low = low; high = high })
+same_row : (point : Point) (a b : List instance.NamedTerm) (low high : Option Rational) → sum_of_named point a ≡ sum_of_named point b → AllByRecursion (KeepsRow point) (record { terms = a; low = low; high = high } ∷ []) ↔ KeepsRow point (record { terms = b; low = low; high = high })
 same_row point a b low high e = ((λ k. keeps_same point a b low high e k.0), (λ k. (keeps_same point b a low high (sym e) k, tt)))
 
-kind_keeps : (point : Point) (a b : List instance.Term) (kind : RowKind) → sum_at point a ≡ sum_at point b → AllByRecursion (KeepsRow point) (rows_by a kind) ↔ KeepsRow point (record { terms = b; low = low_end kind; high = high_end kind })
+kind_keeps : (point : Point) (a b : List instance.NamedTerm) (kind : RowKind) → sum_of_named point a ≡ sum_of_named point b → AllByRecursion (KeepsRow point) (rows_by a kind) ↔ KeepsRow point (record { terms = b; low = low_end kind; high = high_end kind })
 kind_keeps point a b (One AtLeast right) e = same_row point a b (Some right) None e
 kind_keeps point a b (One AtMost right) e = same_row point a b None (Some right) e
 kind_keeps point a b (One Equal right) e = same_row point a b (Some right) (Some right) e

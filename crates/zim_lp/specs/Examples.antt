@@ -4,8 +4,8 @@ use Rattle.zim_instance.specs.Seen.{Seen, seen}
 use Rattle.zim_lp.specs.Reader.{lp}
 
 -- A text has an instance, of which this is seen at some names.
-abbrev pub Reads : List ℕ → List (List ℕ) → Seen → Type 0
-Reads text names is = option_map (seen names) (lp text) ≡ Some is
+abbrev pub IsReadAs : List ℕ → List (List ℕ) → Seen → Type 0
+IsReadAs text names is = option_map (seen names) (lp text) ≡ Some is
 
 -- A text has no instance.
 abbrev pub IsRefused : List ℕ → Type 0
@@ -15,27 +15,27 @@ IsRefused text = lp text ≡ None
 pub record ExamplesAreRead : Type 0 where
   -- A column without a bound is real and from 0 up; no other name has a column.
   pub default_ends :
-      Reads (codes "Minimize obj: 1 x Subject To Bounds End")
+      IsReadAs (codes "Minimize obj: 1 x Subject To Bounds End")
       (codes "x" ∷ codes "y" ∷ [])
       (record { columns = Some (record { integer = false; lower = Some (pos 0, 1); upper = None }) ∷ None ∷ []; rows = []; objective = (codes "x", (pos 1, 1)) ∷ []; maximises = false })
   -- `NAME >= l` keeps an upper end.
   pub lower_end_alone :
-      Reads (codes "Minimize obj: 1 x Subject To Bounds 1 <= x <= 5 x >= 2 End")
+      IsReadAs (codes "Minimize obj: 1 x Subject To Bounds 1 <= x <= 5 x >= 2 End")
       (codes "x" ∷ [])
       (record { columns = Some (record { integer = false; lower = Some (pos 2, 1); upper = Some (pos 5, 1) }) ∷ []; rows = []; objective = (codes "x", (pos 1, 1)) ∷ []; maximises = false })
   -- The other bounds set both ends anew.
   pub both_ends_anew :
-      Reads (codes "Minimize obj: 1 x Subject To Bounds x >= 3 -inf <= x <= 4 End")
+      IsReadAs (codes "Minimize obj: 1 x Subject To Bounds x >= 3 -inf <= x <= 4 End")
       (codes "x" ∷ [])
       (record { columns = Some (record { integer = false; lower = None; upper = Some (pos 4, 1) }) ∷ []; rows = []; objective = (codes "x", (pos 1, 1)) ∷ []; maximises = false })
   -- A later bound makes a column free.
   pub later_bound :
-      Reads (codes "Minimize obj: 1 x Subject To Bounds 1 <= x <= 5 x free End")
+      IsReadAs (codes "Minimize obj: 1 x Subject To Bounds 1 <= x <= 5 x free End")
       (codes "x" ∷ [])
       (record { columns = Some (record { integer = false; lower = None; upper = None }) ∷ []; rows = []; objective = (codes "x", (pos 1, 1)) ∷ []; maximises = false })
   -- Comments, decimals, signs, a row of each kind, and an integer column.
   pub each_part :
-      Reads (codes "\\ every part\nMaximize\n obj: 2.5 n - 1 y\nSubject To\n r: 1 n + 1 n = -3 \\ a row\n s: 0 y >= 1\n t: 1 y <= 2\nBounds\n 1 <= n <= 2.5\nGenerals\n n\nEnd")
+      IsReadAs (codes "\\ every part\nMaximize\n obj: 2.5 n - 1 y\nSubject To\n r: 1 n + 1 n = -3 \\ a row\n s: 0 y >= 1\n t: 1 y <= 2\nBounds\n 1 <= n <= 2.5\nGenerals\n n\nEnd")
       (codes "n" ∷ codes "y" ∷ [])
       (record { columns = Some (record { integer = true; lower = Some (pos 1, 1); upper = Some (pos 5, 2) }) ∷ Some (record { integer = false; lower = Some (pos 0, 1); upper = None }) ∷ []; rows = record { terms = (codes "n", (pos 1, 1)) ∷ (codes "n", (pos 1, 1)) ∷ []; low = Some (negsuc 2, 1); high = Some (negsuc 2, 1) } ∷ record { terms = (codes "y", (pos 0, 1)) ∷ []; low = Some (pos 1, 1); high = None } ∷ record { terms = (codes "y", (pos 1, 1)) ∷ []; low = None; high = Some (pos 2, 1) } ∷ []; objective = (codes "n", (pos 5, 2)) ∷ (codes "y", (negsuc 0, 1)) ∷ []; maximises = true })
   -- The last word is missing.

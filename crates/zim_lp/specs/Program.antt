@@ -3,7 +3,7 @@ use Rattle.std.specs.Prelude.{Bool, if◌then◌else◌, List, ◌++◌, map, fo
 use Rattle.std.specs.List.{list_any}
 use Rattle.std.specs.Str.{bytes_eq}
 use Rattle.zim_rational.specs.Rational.{Rational, zero}
-use Rattle.zim_instance.specs.Instance.{Column, Term, Row, Instance}
+use Rattle.zim_instance.specs.Instance.{Column, NamedTerm, Row, Instance}
 use Rattle.zim_lp.specs.Words.{Word}
 
 -- A line of `Bounds`: it sets both ends of a column, of which each may be infinite, or the lower end alone.
@@ -14,7 +14,7 @@ pub data Bound : Type 0 where
 -- The sections of a text: the objective and its sense, the rows, the bounds and the integer columns.
 pub record Program : Type 0 where
   pub maximises : Bool
-  pub objective : List Term
+  pub objective : List NamedTerm
   pub rows : List Row
   pub bounds : List Bound
   pub generals : List Word
@@ -29,8 +29,8 @@ abbrev pub is_among : List Word → Word → Bool
 is_among names word = list_any (bytes_eq word) names
 
 -- The names in a list of terms.
-abbrev pub names_of_terms : List Term → List Word
-names_of_terms terms = map (λ (t : Term). t.name) terms
+abbrev pub names_of_terms : List NamedTerm → List Word
+names_of_terms terms = map (λ (t : NamedTerm). t.name) terms
 
 -- The names in a text.
 abbrev pub names_of_program : Program → List Word
@@ -40,13 +40,13 @@ names_of_program program =
     ++ (map name_of_bound program.bounds ++ program.generals))
 
 -- A column whose ends are set by a bound.
-abbrev pub with_ends : Column → Bound → Column
-with_ends column (Ends _ lower upper) = record column { lower = lower; upper = upper }
-with_ends column (LowerEnd _ lower) = record column { lower = Some lower }
+abbrev pub ends_set : Column → Bound → Column
+ends_set column (Ends _ lower upper) = record column { lower = lower; upper = upper }
+ends_set column (LowerEnd _ lower) = record column { lower = Some lower }
 
 -- The same where the bound is of that name, else the column as it is.
 abbrev pub with_bound : Word → Column → Bound → Column
-with_bound name column bound = if bytes_eq name (name_of_bound bound) then with_ends column bound else column
+with_bound name column bound = if bytes_eq name (name_of_bound bound) then ends_set column bound else column
 
 -- The column of a name: real and from 0 up, where no bound and no `Generals` says otherwise.
 abbrev pub column_of_program : Program → Word → Column

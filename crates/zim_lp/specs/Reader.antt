@@ -2,13 +2,13 @@
 use Rattle.std.specs.Prelude.{ℕ, Bool, if◌then◌else◌, List, [], ◌∷◌, length, Option, Some, None, option_map, option_and_then, codes}
 use Rattle.std.specs.Cmp.Lexicographic.{pointwise}
 use Rattle.std.specs.Str.{bytes_eq}
-use Rattle.zim_instance.specs.Instance.{Term, Row, Instance}
+use Rattle.zim_instance.specs.Instance.{NamedTerm, Row, Instance}
 use Rattle.zim_lp.specs.Words.{Word, lp_words}
 use Rattle.zim_lp.specs.Program.{Bound, Program, instance_of}
-use Rattle.zim_lp.specs.Syntax.{after, read_all, read_aim, read_terms, is_label, read_row, begins_bound, read_bound, read_generals}
+use Rattle.zim_lp.specs.Syntax.{words_behind, read_all, read_aim, read_terms, is_label, read_row, begins_bound, read_bound, read_generals}
 
 -- The last sections: bounds, where present `Generals`, and `End`.
-abbrev pub read_last_sections : Bool → List Term → List Row → List Word → Option Program
+abbrev pub read_last_sections : Bool → List NamedTerm → List Row → List Word → Option Program
 read_last_sections maximises objective rows ws =
     option_and_then
     (λ (bounds : List Bound × List Word).
@@ -21,14 +21,14 @@ read_last_sections maximises objective rows ws =
     (read_all begins_bound read_bound (length ws) ws)
 
 -- The sections behind the objective: `Subject`, `To`, rows, `Bounds` and the last ones.
-abbrev pub read_sections : Bool → List Term → List Word → Option Program
+abbrev pub read_sections : Bool → List NamedTerm → List Word → Option Program
 read_sections maximises objective ws =
     option_and_then
     (λ (row_words : List Word).
     option_and_then
-    (λ (rows : List Row × List Word). option_and_then (read_last_sections maximises objective rows.0) (after (codes "Bounds") rows.1))
+    (λ (rows : List Row × List Word). option_and_then (read_last_sections maximises objective rows.0) (words_behind (codes "Bounds") rows.1))
     (read_all is_label read_row (length row_words) row_words))
-    (option_and_then (after (codes "To")) (after (codes "Subject") ws))
+    (option_and_then (words_behind (codes "To")) (words_behind (codes "Subject") ws))
 
 -- The sections of a text: `Minimize` or `Maximize`, `obj:`, a term list, and the others.
 abbrev pub read_program : List Word → Option Program
@@ -36,8 +36,8 @@ read_program ws =
     option_and_then
     (λ (aim : Bool × List Word).
     option_and_then
-    (λ (objective : List Term × List Word). read_sections aim.0 objective.0 objective.1)
-    (option_and_then read_terms (after (codes "obj:") aim.1)))
+    (λ (objective : List NamedTerm × List Word). read_sections aim.0 objective.0 objective.1)
+    (option_and_then read_terms (words_behind (codes "obj:") aim.1)))
     (read_aim ws)
 
 -- The instance that a text has in the LP format, if it has one.

@@ -57,14 +57,14 @@ abbrev pub high_label : ℕ → List ℕ
 high_label row = row_name row ++ codes "u:"
 
 -- A row of terms that compare with a number.
-abbrev pub compared : List ℕ → List WrittenTerm → Sense → Rational → WrittenRow
-compared label terms sense right = record { label = label; terms = terms; sense = sense; right = short_number right }
+abbrev pub row_compared : List ℕ → List WrittenTerm → Sense → Rational → WrittenRow
+row_compared label terms sense right = record { label = label; terms = terms; sense = sense; right = short_number right }
 
 -- The rows that a file has for a row of this number, these terms and this kind: one, and for a range two.
 abbrev pub rows_of_kind : ℕ → List WrittenTerm → RowKind → List WrittenRow
-rows_of_kind number terms (One sense right) = compared (row_label number) terms sense right ∷ []
+rows_of_kind number terms (One sense right) = row_compared (row_label number) terms sense right ∷ []
 rows_of_kind number terms (Range low high) =
-    compared (row_label number) terms AtLeast low ∷ compared (high_label number) terms AtMost high ∷ []
+    row_compared (row_label number) terms AtLeast low ∷ row_compared (high_label number) terms AtMost high ∷ []
 
 -- The rows that a file with so many columns has for a row, by its number.
 abbrev pub written_row : ℕ → ℕ × Row → List WrittenRow
@@ -75,8 +75,8 @@ abbrev pub written_rows : ℕ → List Row → List WrittenRow
 written_rows columns rows = flat_map (written_row columns) (enumerate_from 1 rows)
 
 -- A column by its number, with the sides that are short.
-abbrev pub written_column : ℕ × Column → WrittenColumn
-written_column c = record {
+abbrev pub lp_column : ℕ × Column → WrittenColumn
+lp_column c = record {
   name = column_name c.0;
   integer = c.1.integer;
   lower = option_map short_number (written_side c.1.sides.low);
@@ -90,7 +90,7 @@ written_offset = record { name = offset_name; integer = false; lower = Some (sho
 -- The columns of a file, numbered from 1, and `one` behind them where it stands.
 abbrev pub written_columns : LinearProgram → List WrittenColumn
 written_columns program =
-    map written_column (enumerate_from 1 program.columns) ++ (if has_offset program then written_offset ∷ [] else [])
+    map lp_column (enumerate_from 1 program.columns) ++ (if has_offset program then written_offset ∷ [] else [])
 
 -- The file of a program.
 abbrev pub written_file : LinearProgram → WrittenFile

@@ -18,13 +18,13 @@ without_comments inside (b ∷ rest) =
     cond (b == 10) (b ∷ without_comments false rest) (cond (inside || b == 92) (without_comments true rest) (b ∷ without_comments inside rest))
 
 -- A word has no bytes.
-abbrev pub is_empty : Word → Bool
-is_empty [] = true
-is_empty (_ ∷ _) = false
+abbrev pub is_empty_word : Word → Bool
+is_empty_word [] = true
+is_empty_word (_ ∷ _) = false
 
 -- The longest runs of bytes that are no gaps.
 abbrev pub words : List ℕ → List Word
-words text = filter (λ w. not (is_empty w)) (slice_split is_gap text)
+words text = filter (λ w. not (is_empty_word w)) (slice_split is_gap text)
 
 -- The words of an LP text.
 abbrev pub lp_words : List ℕ → List Word

@@ -7,7 +7,7 @@ ghost use Rattle.zim_rows.specs.declared.rows.Column as model;
 ghost use Rattle.zim_rows.specs.Covered as covered;
 ghost use Rattle.zim_rows.specs.Named.{column_name};
 ghost use Rattle.zim_lp.specs.FileText.{ends_text, bound_text, general_text, generals_text, integers};
-ghost use Rattle.zim_lp.specs.Text.{short_number, written_column, written_offset};
+ghost use Rattle.zim_lp.specs.Text.{short_number, lp_column, written_offset};
 
 use crate::decimals::put_number;
 use crate::terms::put_column_name;
@@ -18,7 +18,7 @@ use zim_rows::Column;
 
 // Puts the bounds of the columns in order, numbered from 1.
 pub(crate) fn put_bounds<F: Folder>(pen: &mut Pen<F>, columns: &[Column])
-    ensures { Writes F.state pen.old pen.new (flat_map (λ (p : ℕ × model.Column). bound_text (written_column p)) (enumerate_from 1 columns.now)) }
+    ensures { Writes F.state pen.old pen.new (flat_map (λ (p : ℕ × model.Column). bound_text (lp_column p)) (enumerate_from 1 columns.now)) }
 {
     for (index, column) in columns.iter().enumerate() {
         put_bound(pen, index + 1, column);
@@ -27,7 +27,7 @@ pub(crate) fn put_bounds<F: Folder>(pen: &mut Pen<F>, columns: &[Column])
 
 // Puts the bound of a column, by its number.
 fn put_bound<F: Folder>(pen: &mut Pen<F>, number: usize, column: &Column)
-    ensures { Writes F.state pen.old pen.new (bound_text (written_column (number, column.now))) }
+    ensures { Writes F.state pen.old pen.new (bound_text (lp_column (number, column.now))) }
 {
     let low = written_side(&column.sides.low);
     let high = written_side(&column.sides.high);
@@ -117,7 +117,7 @@ pub(crate) fn offset_bound(stands: bool) -> &'static [u8]
 
 // Puts the names of the integer columns under their heading, where there is one.
 pub(crate) fn put_generals<F: Folder>(pen: &mut Pen<F>, columns: &[Column])
-    ensures { Writes F.state pen.old pen.new (generals_text (integers (map written_column (enumerate_from 1 columns.now)))) }
+    ensures { Writes F.state pen.old pen.new (generals_text (integers (map lp_column (enumerate_from 1 columns.now)))) }
 {
     if has_integer(columns) {
         pen.put(b"Generals\n");
@@ -132,7 +132,7 @@ fn has_integer(columns: &[Column]) -> bool
 }
 
 fn put_integer_names<F: Folder>(pen: &mut Pen<F>, columns: &[Column])
-    ensures { Writes F.state pen.old pen.new (flat_map (λ (p : ℕ × model.Column). if p.1.integer then general_text (written_column p) else []) (enumerate_from 1 columns.now)) }
+    ensures { Writes F.state pen.old pen.new (flat_map (λ (p : ℕ × model.Column). if p.1.integer then general_text (lp_column p) else []) (enumerate_from 1 columns.now)) }
 {
     for (index, column) in columns.iter().enumerate() {
         put_name_of_integer(pen, index + 1, column);
@@ -141,7 +141,7 @@ fn put_integer_names<F: Folder>(pen: &mut Pen<F>, columns: &[Column])
 
 // Puts the line of a column where it is integer, by its number.
 fn put_name_of_integer<F: Folder>(pen: &mut Pen<F>, number: usize, column: &Column)
-    ensures { Writes F.state pen.old pen.new (if column.now.integer then general_text (written_column (number, column.now)) else []) }
+    ensures { Writes F.state pen.old pen.new (if column.now.integer then general_text (lp_column (number, column.now)) else []) }
 {
     if column.integer {
         pen.put(b" ");

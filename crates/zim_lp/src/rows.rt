@@ -7,7 +7,7 @@ ghost use Rattle.zim_rows.specs.declared.rows.Row as model;
 ghost use Rattle.zim_rows.specs.Named.{row_name};
 ghost use Rattle.zim_rows.specs.Program.{IsShortTerm, IsShortKind, IsRow};
 ghost use Rattle.zim_lp.specs.FileText.{sense_text, row_text};
-ghost use Rattle.zim_lp.specs.Text.{written_terms, compared, written_row};
+ghost use Rattle.zim_lp.specs.Text.{written_terms, row_compared, written_row};
 
 use crate::decimals::put_number;
 use crate::terms::put_terms;
@@ -56,7 +56,7 @@ fn put_compared<F: Folder>(
 )
     requires terms { All IsShortTerm terms.now }
     requires right { IsTrue (decimal.is_short right) }
-    ensures { Writes F.state pen.old pen.new (row_text (compared (row_name number ++ ending.now) (written_terms columns terms.now) sense right)) }
+    ensures { Writes F.state pen.old pen.new (row_text (row_compared (row_name number ++ ending.now) (written_terms columns terms.now) sense right)) }
 {
     pen.put(b" ");
     put_label(pen, number, ending);

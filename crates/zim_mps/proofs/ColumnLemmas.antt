@@ -15,7 +15,7 @@ use Rattle.zim_rows.specs.declared.rows.Column as rows
 use Rattle.zim_rows.specs.Program.{LinearProgram}
 use Rattle.zim_rows.specs.Named as named
 use Rattle.zim_mps.specs.Program.{Entry, Bound, is_among, names_of_columns, is_integer, with_bound, instance_of}
-use Rattle.zim_mps.specs.Text.{FileColumn, numbered_column, offset_column, file_columns}
+use Rattle.zim_mps.specs.Text.{FileColumn, numbered_column, mps_offset_column, mps_columns}
 use Rattle.zim_mps.proofs.Said.{said_entry, said_column, said_sides, said_bound, said}
 
 -- ---- the columns of the file
@@ -28,15 +28,15 @@ numbered_named : (p : LinearProgram) (first : ℕ) (columns : List rows.Column) 
 numbered_named p first [] = refl
 numbered_named p first (c ∷ cs) = ap (λ (ds : List NamedColumn). named.named_column (first, c) ∷ ds) (numbered_named p (first + 1) cs)
 
-offset_named : (p : LinearProgram) (b : Bool) → map named_of (if b then offset_column p ∷ [] else []) ≡ (if b then named.offset_column ∷ [] else [])
+offset_named : (p : LinearProgram) (b : Bool) → map named_of (if b then mps_offset_column p ∷ [] else []) ≡ (if b then named.offset_column ∷ [] else [])
 offset_named p true = refl
 offset_named p false = refl
 
 -- the columns of the file by name
-pub columns_named : (p : LinearProgram) → map named_of (file_columns p) ≡ named.file_columns p
+pub columns_named : (p : LinearProgram) → map named_of (mps_columns p) ≡ named.file_columns p
 columns_named p =
-    map-append named_of (map (numbered_column p) (enumerate_from 1 p.columns)) (if named.has_offset p then offset_column p ∷ [] else [])
-    ∙ ap (λ (ds : List NamedColumn). ds ++ map named_of (if named.has_offset p then offset_column p ∷ [] else [])) (numbered_named p 1 p.columns)
+    map-append named_of (map (numbered_column p) (enumerate_from 1 p.columns)) (if named.has_offset p then mps_offset_column p ∷ [] else [])
+    ∙ ap (λ (ds : List NamedColumn). ds ++ map named_of (if named.has_offset p then mps_offset_column p ∷ [] else [])) (numbered_named p 1 p.columns)
     ∙ ap (λ (ds : List NamedColumn). map named.named_column (enumerate_from 1 p.columns) ++ ds) (offset_named p (named.has_offset p))
 
 -- ---- entries
@@ -175,6 +175,6 @@ columns_read (c ∷ cs) distinct name = by_name (bytes_eq name c.name) refl (col
 -- the columns of the text are those of the file
 pub columns_same : (p : LinearProgram) → HasDistinctNames (named.file_columns p) → (name : Field) → (instance_of (said p) (codes "obj")).column name ≡ column_named (named.file_columns p) name
 columns_same p distinct name =
-    ap (λ (b : Bool). if b then Some (column_read (file_columns p) name) else None) (names_of_lines (file_columns p) name)
-    ∙ columns_read (file_columns p) (subst HasDistinctNames (sym (columns_named p)) distinct) name
+    ap (λ (b : Bool). if b then Some (column_read (mps_columns p) name) else None) (names_of_lines (mps_columns p) name)
+    ∙ columns_read (mps_columns p) (subst HasDistinctNames (sym (columns_named p)) distinct) name
     ∙ ap (λ (ds : List NamedColumn). column_named ds name) (columns_named p)

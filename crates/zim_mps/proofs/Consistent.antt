@@ -16,7 +16,7 @@ use Rattle.zim_rows.specs.Program.{LinearProgram, IsRow}
 use Rattle.zim_rows.specs.Named as named
 use Rattle.zim_rows.specs.Named.{row_name}
 use Rattle.zim_mps.specs.Program.{Entry, Setting, Bound, is_among, are_distinct, is_free, is_at_least, names_of_rows, names_of_columns, is_integer, says_lower, says_upper, are_settings, is_marked_well, are_together, are_different_places, are_said_once, has_one_reading, is_consistent, only_name}
-use Rattle.zim_mps.specs.Text.{NumberedRow, FileColumn, file_columns}
+use Rattle.zim_mps.specs.Text.{NumberedRow, FileColumn, mps_columns}
 use Rattle.zim_mps.proofs.Said.{said_kind, said_row, said_entry, said_column, said_right, said_range_of, said_range, said_sides, said_bound, said, IsEntry, IsOverRows, over_rows, all_append}
 use Rattle.zim_mps.proofs.NameLemmas.{names_from, names_distinct, obj_no_row, or_true, among_names, rows_among, row_name_other}
 use Rattle.zim_mps.proofs.ColumnLemmas.{named_of, columns_named, names_of_file, names_of_lines, HasMark, all_marked}
@@ -200,7 +200,7 @@ entries_marked : (p : LinearProgram) (name : Field) (integer : Bool) (entries : 
 entries_marked p name integer [] well = tt
 entries_marked p name integer (e ∷ es) well = (well, entries_marked p name integer es well)
 
-columns_marked : (p : LinearProgram) (cs : List FileColumn) → AllByRecursion (HasMark (file_columns p)) cs → AllByRecursion (AreSaid (said p).bounds) cs → AllByRecursion (λ (e : Entry). is_marked_well (said p) e ≡ true) (flat_map said_column cs)
+columns_marked : (p : LinearProgram) (cs : List FileColumn) → AllByRecursion (HasMark (mps_columns p)) cs → AllByRecursion (AreSaid (said p).bounds) cs → AllByRecursion (λ (e : Entry). is_marked_well (said p) e ≡ true) (flat_map said_column cs)
 columns_marked p [] marks ends = tt
 columns_marked p (c ∷ cs) marks ends =
     let well = mark_is_well (is_integer (said p).entries c.name) c.integer (says_lower (said p).bounds c.name) (says_upper (said p).bounds c.name) marks.0 ends.0.lower ends.0.upper in
@@ -217,24 +217,24 @@ lower_said bounds (c ∷ cs) all = (all.0.lower, lower_said bounds cs all.1)
 
 pub consistent : (p : LinearProgram) → 1 + length p.columns < 2 ^ 64 → 1 + length p.rows < 2 ^ 64 → HasDistinctNames (named.file_columns p) → AllByRecursion (IsRow (length p.columns)) p.rows → is_consistent (said p) ≡ true
 consistent p few room names each =
-    let others : HasDistinctNames (map named_of (file_columns p)) = subst HasDistinctNames (sym (columns_named p)) names in
+    let others : HasDistinctNames (map named_of (mps_columns p)) = subst HasDistinctNames (sym (columns_named p)) names in
     let all : names_of_rows (λ _. true) (said p).rows ≡ codes "obj" ∷ names_from 1 p.rows = ap (λ (names : List Field). codes "obj" ∷ names) (names_all 1 p.rows) in
     let distinct : are_distinct (names_of_rows (λ _. true) (said p).rows) ≡ true = rw (names_all 1 p.rows, obj_no_row 1 p.rows, names_distinct 1 p.rows room) refl in
     let entries : list_all (λ (e : Entry). is_among (names_of_rows (λ _. true) (said p).rows) e.row) (said p).entries ≡ true =
     ap (λ (names : List Field). list_all (λ (e : Entry). is_among names e.row) (said p).entries) all
-    ∙ passes (λ (e : Entry). is_among (codes "obj" ∷ names_from 1 p.rows) e.row) (said p).entries (columns_of_rows p.rows (file_columns p) (over_rows p few)) in
+    ∙ passes (λ (e : Entry). is_among (codes "obj" ∷ names_from 1 p.rows) e.row) (said p).entries (columns_of_rows p.rows (mps_columns p) (over_rows p few)) in
     let rights : are_settings (names_of_rows (λ k. not (is_free k)) (said p).rows) (said p).rhs ≡ true =
     ap (λ (names : List Field). are_settings names (said p).rhs) (names_bound 1 p.rows) ∙ rights_settings p.rows room in
     let ranges : are_settings (names_of_rows is_at_least (said p).rows) (said p).ranges ≡ true = ranges_settings p.rows room in
-    let bounds : list_all (λ (b : Bound). is_among (names_of_columns (said p).entries) b.column) (said p).bounds ≡ true = bounds_pass (file_columns p) in
+    let bounds : list_all (λ (b : Bound). is_among (names_of_columns (said p).entries) b.column) (said p).bounds ≡ true = bounds_pass (mps_columns p) in
     let marks : list_all (is_marked_well (said p)) (said p).entries ≡ true =
-    passes (is_marked_well (said p)) (said p).entries (columns_marked p (file_columns p) (all_marked (file_columns p) others) (all_said (file_columns p))) in
-    let together : are_together (said p).entries ≡ true = columns_together (file_columns p) others in
-    let places : are_different_places (said p).entries ≡ true = columns_apart (length p.rows) (file_columns p) room (over_rows p few) (file_rising p each) others in
-    let once : are_said_once (said p).bounds ≡ true = columns_once (file_columns p) others in
+    passes (is_marked_well (said p)) (said p).entries (columns_marked p (mps_columns p) (all_marked (mps_columns p) others) (all_said (mps_columns p))) in
+    let together : are_together (said p).entries ≡ true = columns_together (mps_columns p) others in
+    let places : are_different_places (said p).entries ≡ true = columns_apart (length p.rows) (mps_columns p) room (over_rows p few) (file_rising p each) others in
+    let once : are_said_once (said p).bounds ≡ true = columns_once (mps_columns p) others in
     let one_way : list_all (has_one_reading (said p).bounds) (said p).bounds ≡ true =
     passes (has_one_reading (said p).bounds) (said p).bounds
-    (columns_read_one_way (said p).bounds (file_columns p) (lower_said (said p).bounds (file_columns p) (all_said (file_columns p)))) in
+    (columns_read_one_way (said p).bounds (mps_columns p) (lower_said (said p).bounds (mps_columns p) (all_said (mps_columns p)))) in
     ten_tests _ _ _ _ _ _ _ _ _ _ distinct entries rights ranges bounds marks together places once one_way
   where
     both : (a b : Bool) → a ≡ true → b ≡ true → (a && b) ≡ true

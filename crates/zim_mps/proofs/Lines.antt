@@ -3,7 +3,7 @@ use Rattle.std.proofs.Common.{◌≡◌, ℕ, false, List, [], ◌∷◌, ◌++�
 use Rattle.std.specs.List.{AllByRecursion, flat_map}
 use Rattle.zim_fields.specs.Fields.{Field, IsField}
 use Rattle.zim_fields.proofs.Cutting.{IsInLine, lines-line, spread_line, fields-spread, lines-spread}
-use Rattle.zim_mps.specs.Sections.{Line, begins_with_blank, line_of, mps_lines, Part, parts}
+use Rattle.zim_mps.specs.Sections.{Line, begins_with_blank, line_of, mps_lines, Section, parts}
 use Rattle.zim_mps.specs.Sections.Line.{Heading, Fields}
 
 -- A text gives lines, whatever follows.
@@ -44,10 +44,10 @@ Gives-each text line (x ∷ xs) all = Gives-append (text x) (flat_map text xs) (
 -- fields go before the first heading
 pub parts-fields : (fs : List (List Field)) (ls : List Line) → parts (map Fields fs ++ ls) ≡ (fs ++ (parts ls).0, (parts ls).1)
 parts-fields [] ls = refl
-parts-fields (f ∷ fs) ls = ap (λ (p : List (List Field) × List Part). let more : List (List Field) × List Part = (f ∷ p.0, p.1) in more) (parts-fields fs ls)
+parts-fields (f ∷ fs) ls = ap (λ (p : List (List Field) × List Section). let more : List (List Field) × List Section = (f ∷ p.0, p.1) in more) (parts-fields fs ls)
 
 -- a heading with fields up to the next one
 pub parts-section : (heading next : List ℕ) (fs : List (List Field)) (ls : List Line) → parts (Heading heading ∷ (map Fields fs ++ (Heading next ∷ ls))) ≡ ([], record { heading = heading; lines = fs } ∷ (parts (Heading next ∷ ls)).1)
 parts-section heading next fs ls =
-    ap (λ (p : List (List Field) × List Part). let more : List (List Field) × List Part = ([], record { heading = heading; lines = p.0 } ∷ p.1) in more)
-    (parts-fields fs (Heading next ∷ ls) ∙ ap (λ (gs : List (List Field)). let p : List (List Field) × List Part = (gs, (parts (Heading next ∷ ls)).1) in p) (append-nil fs))
+    ap (λ (p : List (List Field) × List Section). let more : List (List Field) × List Section = ([], record { heading = heading; lines = p.0 } ∷ p.1) in more)
+    (parts-fields fs (Heading next ∷ ls) ∙ ap (λ (gs : List (List Field)). let p : List (List Field) × List Section = (gs, (parts (Heading next ∷ ls)).1) in p) (append-nil fs))

@@ -15,7 +15,7 @@ use Rattle.zim_rows.specs.Entries.{entries_of_row}
 use Rattle.zim_rows.specs.Named.{row_name, has_offset}
 use Rattle.zim_rows.specs.Program.{LinearProgram, IsRow}
 use Rattle.zim_mps.specs.Program.{Entry, Bound, is_among, names_of_columns, says_lower, says_upper, is_first_column, are_together, are_one_place, are_different_places, are_said_once, has_one_reading}
-use Rattle.zim_mps.specs.Text.{FileColumn, numbered_column, offset_column, numbered_columns, offset_columns, file_columns}
+use Rattle.zim_mps.specs.Text.{FileColumn, numbered_column, mps_offset_column, numbered_columns, offset_columns, mps_columns}
 use Rattle.zim_mps.proofs.Said.{said_entry, said_column, said_sides, said_bound, IsEntry, IsOverRows, all_append}
 use Rattle.zim_mps.proofs.NameLemmas.{or_true, row_name_other}
 use Rattle.zim_mps.proofs.ColumnLemmas.{named_of, IsOther, names_of_file, names_of_lines}
@@ -108,12 +108,12 @@ numbered_rising : (p : LinearProgram) (first : ℕ) (columns : List Column) → 
 numbered_rising p first [] are = tt
 numbered_rising p first (c ∷ cs) are = (column_rising (length p.columns) 1 first p.rows are, numbered_rising p (first + 1) cs are)
 
-offset_rising : (p : LinearProgram) (b : Bool) → AllByRecursion (λ (c : FileColumn). AreRising 1 c.entries) (if b then offset_column p ∷ [] else [])
+offset_rising : (p : LinearProgram) (b : Bool) → AllByRecursion (λ (c : FileColumn). AreRising 1 c.entries) (if b then mps_offset_column p ∷ [] else [])
 offset_rising p true = (tt, tt)
 offset_rising p false = tt
 
 -- the entries of each column of a file rise
-pub file_rising : (p : LinearProgram) → AllByRecursion (IsRow (length p.columns)) p.rows → AllByRecursion (λ (c : FileColumn). AreRising 1 c.entries) (file_columns p)
+pub file_rising : (p : LinearProgram) → AllByRecursion (IsRow (length p.columns)) p.rows → AllByRecursion (λ (c : FileColumn). AreRising 1 c.entries) (mps_columns p)
 file_rising p are =
     all_append (λ (c : FileColumn). AreRising 1 c.entries) (numbered_columns p) (offset_columns p) (numbered_rising p 1 p.columns are) (offset_rising p (has_offset p))
 

@@ -13,11 +13,11 @@ use Rattle.zim_rows.specs.declared.rows.RowKind.TheVariants.{One, Range}
 use Rattle.zim_rows.specs.declared.rows.Sense.TheVariants as sense
 use Rattle.zim_rows.specs.Program.{LinearProgram}
 use Rattle.zim_rows.specs.Named.{row_name}
-use Rattle.zim_mps.specs.Sections.{Line, mps_lines, Part, parts, Sections, is_none_of, sections_of, read_sections}
+use Rattle.zim_mps.specs.Sections.{Line, mps_lines, Section, parts, Sections, is_none_of, sections_of, read_sections}
 use Rattle.zim_mps.specs.Sections.Line.{Heading, Fields}
 use Rattle.zim_mps.specs.Program.{Entry, Setting}
 use Rattle.zim_mps.specs.Syntax.{read_each, read_row, is_marker, read_entries, read_setting, read_bound, read_program}
-use Rattle.zim_mps.specs.Text.{NumberedRow, FileColumn, row_text, columns_text, last_mark, right_text, is_range, has_range, range_text, ranges_text, bound_text, file_columns, mps_text}
+use Rattle.zim_mps.specs.Text.{NumberedRow, FileColumn, row_text, columns_text, last_mark, right_text, is_range, has_range, range_text, ranges_text, bound_text, mps_columns, mps_text}
 use Rattle.zim_mps.proofs.Readable.{IsReadable, IsReadableSide, IsReadableTerm, IsReadableColumn, HasReadableSides, HasReadableRight, IsReadableRange, HasReadableRange, IsReadableProgram}
 use Rattle.zim_mps.proofs.Lines.{Gives, Gives-append, Gives-heading, Gives-fields, parts-section}
 use Rattle.zim_mps.proofs.Said.{kind_field, row_fields, entry_fields, column_lines, marker_lines, front_lines, columns_lines, right_fields, range_lines_of, range_lines, sides_lines, bound_lines, said_kind, said_row, said_entry, said_cost, said_column, said_right, said_range_of, said_range, said_sides, said_bound, said, over_rows, row_texts, column_texts, right_texts, range_texts, bound_texts}
@@ -155,10 +155,10 @@ bounds_read (c ∷ cs) reads = (sides_read c.name c.low c.high reads.0.low reads
 abbrev file_sections : LinearProgram → Sections
 file_sections p = record {
   rows = (codes "N" ∷ codes "obj" ∷ []) ∷ map row_fields (enumerate_from 1 p.rows);
-  columns = columns_lines (file_columns p);
+  columns = columns_lines (mps_columns p);
   rhs = map right_fields (enumerate_from 1 p.rows);
   ranges = flat_map range_lines (enumerate_from 1 p.rows);
-  bounds = flat_map bound_lines (file_columns p);
+  bounds = flat_map bound_lines (mps_columns p);
 }
 
 -- the lines of the ranges, where there is one
@@ -173,16 +173,16 @@ lines_of_sections ranged s =
     ∷ (map Fields s.columns
     ++ (Heading (codes "RHS") ∷ (map Fields s.rhs ++ (ranges_section ranged s.ranges ++ (Heading (codes "BOUNDS") ∷ (map Fields s.bounds ++ (Heading (codes "ENDATA") ∷ [])))))))))
 
-abbrev part : List ℕ → List (List Field) → Part
+abbrev part : List ℕ → List (List Field) → Section
 part heading lines = record { heading = heading; lines = lines }
 
 -- a section before parts that are known
-section_before : (heading next : List ℕ) (fs : List (List Field)) (ls : List Line) (ps : List Part) → parts (Heading next ∷ ls) ≡ ([], ps) → parts (Heading heading ∷ (map Fields fs ++ (Heading next ∷ ls))) ≡ ([], part heading fs ∷ ps)
+section_before : (heading next : List ℕ) (fs : List (List Field)) (ls : List Line) (ps : List Section) → parts (Heading next ∷ ls) ≡ ([], ps) → parts (Heading heading ∷ (map Fields fs ++ (Heading next ∷ ls))) ≡ ([], part heading fs ∷ ps)
 section_before heading next fs ls ps e =
-    parts-section heading next fs ls ∙ ap (λ (p : List (List Field) × List Part). let more : List (List Field) × List Part = ([], part heading fs ∷ p.1) in more) e
+    parts-section heading next fs ls ∙ ap (λ (p : List (List Field) × List Section). let more : List (List Field) × List Section = ([], part heading fs ∷ p.1) in more) e
 
 -- the parts before the right sides, whatever follows
-front_parts : (s : Sections) (ls : List Line) (ps : List Part) → parts (Heading (codes "RHS") ∷ ls) ≡ ([], ps) → parts (Heading (codes "NAME zimplc") ∷ Heading (codes "ROWS") ∷ (map Fields s.rows ++ (Heading (codes "COLUMNS") ∷ (map Fields s.columns ++ (Heading (codes "RHS") ∷ ls))))) ≡ ([], part (codes "NAME zimplc") [] ∷ part (codes "ROWS") s.rows ∷ part (codes "COLUMNS") s.columns ∷ ps)
+front_parts : (s : Sections) (ls : List Line) (ps : List Section) → parts (Heading (codes "RHS") ∷ ls) ≡ ([], ps) → parts (Heading (codes "NAME zimplc") ∷ Heading (codes "ROWS") ∷ (map Fields s.rows ++ (Heading (codes "COLUMNS") ∷ (map Fields s.columns ++ (Heading (codes "RHS") ∷ ls))))) ≡ ([], part (codes "NAME zimplc") [] ∷ part (codes "ROWS") s.rows ∷ part (codes "COLUMNS") s.columns ∷ ps)
 front_parts s ls ps e =
     section_before (codes "NAME zimplc") (codes "ROWS") [] (map Fields s.rows ++ (Heading (codes "COLUMNS") ∷ (map Fields s.columns ++ (Heading (codes "RHS") ∷ ls)))) (part (codes "ROWS") s.rows ∷ part (codes "COLUMNS") s.columns ∷ ps)
     (section_before (codes "ROWS") (codes "COLUMNS") s.rows (map Fields s.columns ++ (Heading (codes "RHS") ∷ ls)) (part (codes "COLUMNS") s.columns ∷ ps)
@@ -202,7 +202,7 @@ parts_plain s =
     front_parts s _ _
     (section_before (codes "RHS") (codes "BOUNDS") s.rhs (map Fields s.bounds ++ (Heading (codes "ENDATA") ∷ [])) (part (codes "BOUNDS") s.bounds ∷ part (codes "ENDATA") [] ∷ []) (bounds_parts s))
 
-abbrev of_parts : List (List Field) × List Part → Option Sections
+abbrev of_parts : List (List Field) × List Section → Option Sections
 of_parts p = if is_none_of p.0 then sections_of p.1 else None
 
 read_by : (text : List ℕ) (ranged : Bool) (s : Sections) → (ranged ≡ false → s.ranges ≡ []) → mps_lines text ≡ lines_of_sections ranged s → read_sections text ≡ Some s
@@ -227,12 +227,12 @@ file_gives : (p : LinearProgram) → 1 + length p.columns < 2 ^ 64 → 1 + lengt
 file_gives p few many reads =
     let over = over_rows p few in
     let end = Gives-heading (codes "ENDATA") (refl, (refl, (refl, (refl, (refl, (refl, tt)))))) refl in
-    let bounds = Gives-append (flat_map bound_text (file_columns p)) _ _ _ (bound_texts (length p.rows) (file_columns p) over reads.sides) end in
+    let bounds = Gives-append (flat_map bound_text (mps_columns p)) _ _ _ (bound_texts (length p.rows) (mps_columns p) over reads.sides) end in
     let bounds_heading = Gives-append (codes "BOUNDS\n") _ _ _ (Gives-heading (codes "BOUNDS") (refl, (refl, (refl, (refl, (refl, (refl, tt)))))) refl) bounds in
     let ranges = Gives-append (ranges_text p.rows) _ _ _ (ranges_give (has_range p.rows) (flat_map range_text (enumerate_from 1 p.rows)) (flat_map range_lines (enumerate_from 1 p.rows)) (range_texts p.rows many reads.ranges)) bounds_heading in
     let rights = Gives-append (flat_map right_text (enumerate_from 1 p.rows)) _ _ _ (right_texts p.rows many reads.rights) ranges in
     let rights_heading = Gives-append (codes "RHS\n") _ _ _ (Gives-heading (codes "RHS") (refl, (refl, (refl, tt))) refl) rights in
-    let columns = Gives-append (columns_text (file_columns p)) _ _ _ (column_texts (length p.rows) (file_columns p) many over reads.columns) rights_heading in
+    let columns = Gives-append (columns_text (mps_columns p)) _ _ _ (column_texts (length p.rows) (mps_columns p) many over reads.columns) rights_heading in
     let columns_heading = Gives-append (codes "COLUMNS\n") _ _ _ (Gives-heading (codes "COLUMNS") (refl, (refl, (refl, (refl, (refl, (refl, (refl, tt))))))) refl) columns in
     let rows = Gives-append (flat_map row_text (enumerate_from 1 p.rows)) _ _ _ (row_texts p.rows many) columns_heading in
     let objective = Gives-append (codes " N obj\n") _ _ _ (Gives-fields (codes " N obj\n") (codes "N") (codes "obj" ∷ []) refl (IsField-test (codes "N") refl refl, (IsField-test (codes "obj") refl refl, tt))) rows in
@@ -243,10 +243,10 @@ program_read : (p : LinearProgram) → IsReadableProgram p → read_program (fil
 program_read p reads =
     rw (
       read_each-all read_row row_fields said_row (enumerate_from 1 p.rows) (rows_read 1 p.rows),
-      columns_read (file_columns p) reads.columns,
+      columns_read (mps_columns p) reads.columns,
       read_each-all (read_setting (codes "RHS")) right_fields said_right (enumerate_from 1 p.rows) (rights_read 1 p.rows reads.rights),
       read_each-flat (read_setting (codes "RNG")) range_lines said_range (enumerate_from 1 p.rows) (ranges_read 1 p.rows reads.ranges),
-      read_each-flat read_bound bound_lines said_bound (file_columns p) (bounds_read (file_columns p) reads.sides),
+      read_each-flat read_bound bound_lines said_bound (mps_columns p) (bounds_read (mps_columns p) reads.sides),
     )
     refl
 

@@ -13,7 +13,7 @@ use Rattle.zim_rows.specs.declared.rows.Row.{Row}
 use Rattle.zim_rows.specs.Entries.{entries_of_row, entries_of_column, entries_by_column}
 use Rattle.zim_rows.specs.Program.{LinearProgram, IsRow, IsShortTerm}
 use Rattle.zim_rows.specs.Named.{column_name, has_offset}
-use Rattle.zim_mps.specs.Text.{NumberedRow, FileColumn, numbered_column, offset_column, numbered_columns, offset_columns, file_columns, cost_of, cost_text, entry_text, column_text, marker_text, columns_front, last_mark, columns_text, bound_text}
+use Rattle.zim_mps.specs.Text.{NumberedRow, FileColumn, numbered_column, mps_offset_column, numbered_columns, offset_columns, mps_columns, cost_of, cost_text, entry_text, column_text, marker_text, columns_front, last_mark, columns_text, bound_text}
 use Rattle.zim_mps.specs.Puts.{HasShortKind, column_sides_text, offset_text}
 
 -- ---- rows
@@ -109,18 +109,18 @@ pub mark_more : (p : LinearProgram) (i : ℕ) (d : Column) → i < length p.colu
 mark_more p i d h = ap (last_mark false) (first_more p i d h) ∙ mark-append false (first_columns p i) (numbered_column p (i + 1, get_or p.columns i d) ∷ [])
 
 -- the text of the columns, those of the program and then `one`
-pub columns_joined : (p : LinearProgram) → columns_front false (numbered_columns p) ++ (marker_text (last_mark false (numbered_columns p)) false ++ offset_text p) ≡ columns_text (file_columns p)
+pub columns_joined : (p : LinearProgram) → columns_front false (numbered_columns p) ++ (marker_text (last_mark false (numbered_columns p)) false ++ offset_text p) ≡ columns_text (mps_columns p)
 columns_joined p = by_offset (has_offset p) (numbered_columns p)
   where
     none : (m : Bool) → marker_text m false ++ [] ≡ marker_text m false
     none m = append-nil (marker_text m false)
 
-    by_offset : (b : Bool) (cs : List FileColumn) → columns_front false cs ++ (marker_text (last_mark false cs) false ++ flat_map column_text (if b then offset_column p ∷ [] else [])) ≡ columns_text (cs ++ (if b then offset_column p ∷ [] else []))
+    by_offset : (b : Bool) (cs : List FileColumn) → columns_front false cs ++ (marker_text (last_mark false cs) false ++ flat_map column_text (if b then mps_offset_column p ∷ [] else [])) ≡ columns_text (cs ++ (if b then mps_offset_column p ∷ [] else []))
     by_offset true cs =
         sym (
-        ap (λ (m : Bool). columns_front false (cs ++ offset_column p ∷ []) ++ marker_text m false) (mark-append false cs (offset_column p ∷ []))
-        ∙ append-nil (columns_front false (cs ++ offset_column p ∷ []))
-        ∙ front-append false cs (offset_column p ∷ [])
+        ap (λ (m : Bool). columns_front false (cs ++ mps_offset_column p ∷ []) ++ marker_text m false) (mark-append false cs (mps_offset_column p ∷ []))
+        ∙ append-nil (columns_front false (cs ++ mps_offset_column p ∷ []))
+        ∙ front-append false cs (mps_offset_column p ∷ [])
         )
     by_offset false cs =
         ap (λ t. columns_front false cs ++ t) (none (last_mark false cs))
@@ -133,7 +133,7 @@ numbered_sides p first [] = refl
 numbered_sides p first (c ∷ cs) = ap (λ t. column_sides_text (first, c) ++ t) (numbered_sides p (first + 1) cs)
 
 -- the text of the bounds, those of the program's columns and then those of `one`
-pub bounds_joined : (p : LinearProgram) → flat_map column_sides_text (enumerate_from 1 p.columns) ++ flat_map bound_text (offset_columns p) ≡ flat_map bound_text (file_columns p)
+pub bounds_joined : (p : LinearProgram) → flat_map column_sides_text (enumerate_from 1 p.columns) ++ flat_map bound_text (offset_columns p) ≡ flat_map bound_text (mps_columns p)
 bounds_joined p =
     ap (λ t. t ++ flat_map bound_text (offset_columns p)) (sym (numbered_sides p 1 p.columns))
     ∙ sym (flat_map-append bound_text (numbered_columns p) (offset_columns p))

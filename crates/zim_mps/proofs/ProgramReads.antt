@@ -22,7 +22,7 @@ use Rattle.zim_rows.specs.Covered.{written_side}
 use Rattle.zim_rows.specs.Entries.{entries_of_row}
 use Rattle.zim_rows.specs.Named.{has_offset}
 use Rattle.zim_rows.specs.Program.{LinearProgram, IsWithin, IsTermWithin, IsKindWithin, HasSidesWithin, IsShortTerm, IsShortRange, IsShortKind, IsRow, IsProgram}
-use Rattle.zim_mps.specs.Text.{FileColumn, minimised, coefficient_of, cost_of, numbered_column, offset_column, right_of}
+use Rattle.zim_mps.specs.Text.{FileColumn, minimised, coefficient_of, cost_of, numbered_column, mps_offset_column, right_of}
 use Rattle.zim_mps.proofs.Numbers.{short_negate, short_minus, short_zero, short_one}
 use Rattle.zim_mps.proofs.Readable.{IsReadable, IsReadableSide, IsReadableTerm, IsReadableColumn, HasReadableSides, HasReadableRight, IsReadableRange, HasReadableRange, IsReadableProgram}
 use Rattle.zim_mps.proofs.Said.{all_append}
@@ -174,16 +174,16 @@ module _ (p : LinearProgram) (is : IsProgram p.columns p.rows p.target) where
   sides_read first (c ∷ cs) within =
       (record { low = side_reads c.sides.low within.0.low; high = side_reads c.sides.high within.0.high }, sides_read (first + 1) cs within.1)
 
-  offset_reads : IsReadableColumn (offset_column p)
+  offset_reads : IsReadableColumn (mps_offset_column p)
   offset_reads = record {
     cost = reads _ (minimised_written p.target.maximize p.target.constant (written p.target.constant is.objective.short_constant is.objective.constant_within));
     entries = tt;
   }
 
-  offset_sides : HasReadableSides (offset_column p)
+  offset_sides : HasReadableSides (mps_offset_column p)
   offset_sides = record { low = reads one one_written; high = reads one one_written }
 
-  if_offset : (P : FileColumn → Type 0) (stands : Bool) → P (offset_column p) → AllByRecursion P (if stands then offset_column p ∷ [] else [])
+  if_offset : (P : FileColumn → Type 0) (stands : Bool) → P (mps_offset_column p) → AllByRecursion P (if stands then mps_offset_column p ∷ [] else [])
   if_offset P true h = (h, tt)
   if_offset P false h = tt
 

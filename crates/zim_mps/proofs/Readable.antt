@@ -9,7 +9,7 @@ use Rattle.zim_rows.specs.declared.rows.Row.{Row}
 use Rattle.zim_rows.specs.declared.rows.RowKind.{RowKind}
 use Rattle.zim_rows.specs.declared.rows.RowKind.TheVariants.{One, Range}
 use Rattle.zim_rows.specs.Program.{LinearProgram}
-use Rattle.zim_mps.specs.Text.{FileColumn, right_of, file_columns}
+use Rattle.zim_mps.specs.Text.{FileColumn, right_of, mps_columns}
 
 -- The decimal text of a number reads back as the number.
 abbrev pub IsReadable : Rational → Type 0
@@ -49,7 +49,7 @@ HasReadableRange row = IsReadableRange row.kind
 
 -- The same of all numbers in the file of a program.
 pub record IsReadableProgram (program : LinearProgram) : Type 0 where
-  pub columns : AllByRecursion IsReadableColumn (file_columns program)
-  pub sides : AllByRecursion HasReadableSides (file_columns program)
+  pub columns : AllByRecursion IsReadableColumn (mps_columns program)
+  pub sides : AllByRecursion HasReadableSides (mps_columns program)
   pub rights : AllByRecursion HasReadableRight program.rows
   pub ranges : AllByRecursion HasReadableRange program.rows

@@ -20,7 +20,7 @@ use Rattle.zim_rows.specs.Named.{column_name, row_name, has_offset}
 use Rattle.zim_mps.specs.Program.{RowKind, RowLine, Entry, Setting, Bound, Program}
 use Rattle.zim_mps.specs.Program.RowKind.{Free, AtLeast, AtMost, Equal}
 use Rattle.zim_mps.specs.Sections.Line.{Fields}
-use Rattle.zim_mps.specs.Text.{NumberedRow, FileColumn, numbered_column, offset_column, numbered_columns, offset_columns, file_columns, kind_text, row_text, cost_text, entry_text, column_text, marker_text, columns_front, last_mark, columns_text, right_of, right_text, range_text_of, range_text, sides_text, bound_text}
+use Rattle.zim_mps.specs.Text.{NumberedRow, FileColumn, numbered_column, mps_offset_column, numbered_columns, offset_columns, mps_columns, row_kind_text, row_text, cost_text, entry_text, column_text, marker_text, columns_front, last_mark, columns_text, right_of, right_text, range_text_of, range_text, sides_text, bound_text}
 use Rattle.zim_mps.proofs.Readable.{IsReadable, IsReadableSide, IsReadableTerm, IsReadableColumn, HasReadableSides, HasReadableRight, IsReadableRange, HasReadableRange}
 use Rattle.zim_mps.proofs.Lines.{Gives, Gives-nil, Gives-append, Gives-fields}
 use Rattle.zim_mps.proofs.Numbers.{number_field}
@@ -126,10 +126,10 @@ said_bound c = said_sides c.name c.low c.high
 abbrev pub said : LinearProgram → Program
 said p = record {
   rows = record { kind = Free; name = codes "obj" } ∷ map said_row (enumerate_from 1 p.rows);
-  entries = flat_map said_column (file_columns p);
+  entries = flat_map said_column (mps_columns p);
   rhs = map said_right (enumerate_from 1 p.rows);
   ranges = flat_map said_range (enumerate_from 1 p.rows);
-  bounds = flat_map said_bound (file_columns p);
+  bounds = flat_map said_bound (mps_columns p);
 }
 
 -- ---- lists
@@ -182,12 +182,12 @@ numbered_over_rows p first [] h = tt
 numbered_over_rows p first (c ∷ cs) h =
     (record { name = column_name_field first (omega arith); entries = column_entries 1 first p.rows }, numbered_over_rows p (first + 1) cs (omega arith))
 
-offset_over_rows : (p : LinearProgram) (b : Bool) → AllByRecursion (IsOverRows (length p.rows)) (if b then offset_column p ∷ [] else [])
+offset_over_rows : (p : LinearProgram) (b : Bool) → AllByRecursion (IsOverRows (length p.rows)) (if b then mps_offset_column p ∷ [] else [])
 offset_over_rows p true = (record { name = IsField-test (codes "one") refl refl; entries = tt }, tt)
 offset_over_rows p false = tt
 
 -- the columns of a program's file are over its rows
-pub over_rows : (p : LinearProgram) → 1 + length p.columns < 2 ^ 64 → AllByRecursion (IsOverRows (length p.rows)) (file_columns p)
+pub over_rows : (p : LinearProgram) → 1 + length p.columns < 2 ^ 64 → AllByRecursion (IsOverRows (length p.rows)) (mps_columns p)
 over_rows p few =
     all_append (IsOverRows (length p.rows)) (numbered_columns p) (offset_columns p) (numbered_over_rows p 1 p.columns few) (offset_over_rows p (has_offset p))
 
@@ -219,7 +219,7 @@ gives_each_one text line xs all = subst (GivesFields (flat_map text xs)) (one_li
 row_gives : (r : NumberedRow) → r.0 < 2 ^ 64 → GivesFields (row_text r) (row_fields r ∷ [])
 row_gives r h = by_kind r.1.kind
   where
-    by_kind : (kind : rows.RowKind) → GivesFields (kind_text kind ++ (row_name r.0 ++ codes "\n")) ((kind_field kind ∷ row_name r.0 ∷ []) ∷ [])
+    by_kind : (kind : rows.RowKind) → GivesFields (row_kind_text kind ++ (row_name r.0 ++ codes "\n")) ((kind_field kind ∷ row_name r.0 ∷ []) ∷ [])
     by_kind (One sense.AtLeast right) = Gives-fields _ (codes "G") (row_name r.0 ∷ []) refl (IsField-test (codes "G") refl refl, (row_name_field r.0 h, tt))
     by_kind (One sense.AtMost right) = Gives-fields _ (codes "L") (row_name r.0 ∷ []) refl (IsField-test (codes "L") refl refl, (row_name_field r.0 h, tt))
     by_kind (One sense.Equal right) = Gives-fields _ (codes "E") (row_name r.0 ∷ []) refl (IsField-test (codes "E") refl refl, (row_name_field r.0 h, tt))

@@ -47,7 +47,7 @@ says p is =
 pub text_says : TextsSayPrograms
 text_says p is =
     let i : Instance = instance_of (said p) (codes "obj") in
-    let objective : List instance.Term = map (minimised_term p.target.maximize) (named_objective p) in
+    let objective : List instance.NamedTerm = map (minimised_term p.target.maximize) (named_objective p) in
     record {
       instance = i;
       read =

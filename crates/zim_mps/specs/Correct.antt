@@ -11,7 +11,7 @@ use Rattle.zim_mps.specs.Reader.{mps}
 use Rattle.zim_mps.specs.Text.{mps_text}
 
 -- A term of the objective, its coefficient negated where the program maximises.
-abbrev pub minimised_term : Bool → instance.Term → instance.Term
+abbrev pub minimised_term : Bool → instance.NamedTerm → instance.NamedTerm
 minimised_term maximises term =
     record { name = term.name; coefficient = if maximises then negate term.coefficient else term.coefficient }
 

@@ -5,8 +5,8 @@ use Rattle.zim_fields.specs.Fields.{Field}
 use Rattle.zim_mps.specs.Reader.{mps}
 
 -- A text has an instance, of which this is seen at some names.
-abbrev pub Reads : List ℕ → List Field → Seen → Type 0
-Reads text names is = option_map (seen names) (mps text) ≡ Some is
+abbrev pub IsReadAs : List ℕ → List Field → Seen → Type 0
+IsReadAs text names is = option_map (seen names) (mps text) ≡ Some is
 
 -- A text has no instance.
 abbrev pub IsRefused : List ℕ → Type 0
@@ -16,32 +16,32 @@ IsRefused text = mps text ≡ None
 pub record ExamplesAreRead : Type 0 where
   -- A range is above the right side by its absolute value; a column without a bound is real and from 0 up.
   pub range_from_its_right_side :
-      Reads (codes "NAME zimplc\nROWS\n N obj\n G r1\nCOLUMNS\n x1 obj 2\n x1 r1 1.5\nRHS\n RHS r1 2\nRANGES\n RNG r1 -6\nBOUNDS\nENDATA\n")
+      IsReadAs (codes "NAME zimplc\nROWS\n N obj\n G r1\nCOLUMNS\n x1 obj 2\n x1 r1 1.5\nRHS\n RHS r1 2\nRANGES\n RNG r1 -6\nBOUNDS\nENDATA\n")
       (codes "x1" ∷ codes "x2" ∷ [])
       (record { columns = Some (record { integer = false; lower = Some (pos 0, 1); upper = None }) ∷ None ∷ []; rows = record { terms = (codes "x1", (pos 3, 2)) ∷ []; low = Some (pos 2, 1); high = Some (pos 8, 1) } ∷ []; objective = (codes "x1", (pos 2, 1)) ∷ []; maximises = false })
   -- Rows of each kind; a right side without a line is 0.
   pub each_kind_of_row :
-      Reads (codes "NAME zimplc\nROWS\n N obj\n G r1\n L r2\n E r3\nCOLUMNS\n x1 obj 0\n x1 r1 1\n x1 r2 1\nRHS\n RHS r2 -3\nBOUNDS\nENDATA\n")
+      IsReadAs (codes "NAME zimplc\nROWS\n N obj\n G r1\n L r2\n E r3\nCOLUMNS\n x1 obj 0\n x1 r1 1\n x1 r2 1\nRHS\n RHS r2 -3\nBOUNDS\nENDATA\n")
       (codes "x1" ∷ [])
       (record { columns = Some (record { integer = false; lower = Some (pos 0, 1); upper = None }) ∷ []; rows = record { terms = (codes "x1", (pos 1, 1)) ∷ []; low = Some (pos 0, 1); high = None } ∷ record { terms = (codes "x1", (pos 1, 1)) ∷ []; low = None; high = Some (negsuc 2, 1) } ∷ record { terms = []; low = Some (pos 0, 1); high = Some (pos 0, 1) } ∷ []; objective = (codes "x1", (pos 0, 1)) ∷ []; maximises = false })
   -- An upper end of 0 or more leaves the lower one at 0.
   pub upper_end_alone :
-      Reads (codes "NAME zimplc\nROWS\n N obj\nCOLUMNS\n x1 obj 1\nRHS\nBOUNDS\n UP BND x1 4\nENDATA\n")
+      IsReadAs (codes "NAME zimplc\nROWS\n N obj\nCOLUMNS\n x1 obj 1\nRHS\nBOUNDS\n UP BND x1 4\nENDATA\n")
       (codes "x1" ∷ [])
       (record { columns = Some (record { integer = false; lower = Some (pos 0, 1); upper = Some (pos 4, 1) }) ∷ []; rows = []; objective = (codes "x1", (pos 1, 1)) ∷ []; maximises = false })
   -- The lines of one column's ends stand in any order.
   pub both_ends_in_any_order :
-      Reads (codes "NAME zimplc\nROWS\n N obj\nCOLUMNS\n x1 obj 1\nRHS\nBOUNDS\n UP BND x1 -1\n LO BND x1 -2\nENDATA\n")
+      IsReadAs (codes "NAME zimplc\nROWS\n N obj\nCOLUMNS\n x1 obj 1\nRHS\nBOUNDS\n UP BND x1 -1\n LO BND x1 -2\nENDATA\n")
       (codes "x1" ∷ [])
       (record { columns = Some (record { integer = false; lower = Some (negsuc 1, 1); upper = Some (negsuc 0, 1) }) ∷ []; rows = []; objective = (codes "x1", (pos 1, 1)) ∷ []; maximises = false })
   -- An upper end below 0 stands beside a lower end that is said.
   pub infinite_lower_end :
-      Reads (codes "NAME zimplc\nROWS\n N obj\nCOLUMNS\n x1 obj 1\nRHS\nBOUNDS\n MI BND x1\n UP BND x1 -1\nENDATA\n")
+      IsReadAs (codes "NAME zimplc\nROWS\n N obj\nCOLUMNS\n x1 obj 1\nRHS\nBOUNDS\n MI BND x1\n UP BND x1 -1\nENDATA\n")
       (codes "x1" ∷ [])
       (record { columns = Some (record { integer = false; lower = None; upper = Some (negsuc 0, 1) }) ∷ []; rows = []; objective = (codes "x1", (pos 1, 1)) ∷ []; maximises = false })
   -- The columns between the markers are integer.
   pub integer_columns :
-      Reads (codes "NAME zimplc\nROWS\n N obj\nCOLUMNS\n x1 obj 1\n MARKER 'MARKER' 'INTORG'\n x2 obj 1\n MARKER 'MARKER' 'INTEND'\nRHS\nBOUNDS\n LO BND x2 0\n PL BND x2\nENDATA\n")
+      IsReadAs (codes "NAME zimplc\nROWS\n N obj\nCOLUMNS\n x1 obj 1\n MARKER 'MARKER' 'INTORG'\n x2 obj 1\n MARKER 'MARKER' 'INTEND'\nRHS\nBOUNDS\n LO BND x2 0\n PL BND x2\nENDATA\n")
       (codes "x1" ∷ codes "x2" ∷ [])
       (record { columns = Some (record { integer = false; lower = Some (pos 0, 1); upper = None }) ∷ Some (record { integer = true; lower = Some (pos 0, 1); upper = None }) ∷ []; rows = []; objective = (codes "x1", (pos 1, 1)) ∷ (codes "x2", (pos 1, 1)) ∷ []; maximises = false })
   -- The lines of a column don't stand together.

@@ -3,7 +3,7 @@ use Rattle.std.specs.Prelude.{Bool, true, false, not, ◌||◌, ◌&&◌, if◌t
 use Rattle.std.specs.List.{list_any, list_all, filter_map}
 use Rattle.std.specs.Str.{bytes_eq}
 use Rattle.zim_rational.specs.Rational.{Rational, zero, plus, negate, at_most, below}
-use Rattle.zim_instance.specs.Instance.{Column, Term, Row, Instance}
+use Rattle.zim_instance.specs.Instance.{Column, NamedTerm, Row, Instance}
 use Rattle.zim_fields.specs.Fields.{Field}
 
 -- The kinds of rows: N, G, L and E.
@@ -153,18 +153,18 @@ abbrev pub setting_of : List Setting → Field → Option Rational
 setting_of settings row = option_map (λ (s : Setting). s.number) (find (λ (s : Setting). bytes_eq row s.row) settings)
 
 -- The terms of a row: the coefficients of its lines in COLUMNS.
-abbrev pub terms_of_row : List Entry → Field → List Term
+abbrev pub terms_of_row : List Entry → Field → List NamedTerm
 terms_of_row entries row =
-    map (λ (e : Entry). let term : Term = record { name = e.column; coefficient = e.coefficient } in term) (filter (λ (e : Entry). bytes_eq row e.row) entries)
+    map (λ (e : Entry). let term : NamedTerm = record { name = e.column; coefficient = e.coefficient } in term) (filter (λ (e : Entry). bytes_eq row e.row) entries)
 
 -- The absolute value.
-abbrev pub absolute : Rational → Rational
-absolute q = if at_most zero q then q else negate q
+abbrev pub without_sign : Rational → Rational
+without_sign q = if at_most zero q then q else negate q
 
 -- A row by its kind, its terms, its right side and its range: a G row with right side b and range r is from b to b + |r|.
-abbrev pub row_by_kind : RowKind → List Term → Rational → Option Rational → Option Row
+abbrev pub row_by_kind : RowKind → List NamedTerm → Rational → Option Rational → Option Row
 row_by_kind Free terms right range = None
-row_by_kind AtLeast terms right range = Some (record { terms = terms; low = Some right; high = option_map (λ r. plus right (absolute r)) range })
+row_by_kind AtLeast terms right range = Some (record { terms = terms; low = Some right; high = option_map (λ r. plus right (without_sign r)) range })
 row_by_kind AtMost terms right range = Some (record { terms = terms; low = None; high = Some right })
 row_by_kind Equal terms right range = Some (record { terms = terms; low = Some right; high = Some right })
 

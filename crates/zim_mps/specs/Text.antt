@@ -53,8 +53,8 @@ numbered_column program column = record {
 }
 
 -- The column `one`, whose number in the objective is the objective's constant.
-abbrev pub offset_column : LinearProgram → FileColumn
-offset_column program = record {
+abbrev pub mps_offset_column : LinearProgram → FileColumn
+mps_offset_column program = record {
   name = offset_name;
   integer = false;
   low = Some one;
@@ -69,22 +69,22 @@ numbered_columns program = map (numbered_column program) (enumerate_from 1 progr
 
 -- The column `one`, where it stands.
 abbrev pub offset_columns : LinearProgram → List FileColumn
-offset_columns program = if has_offset program then offset_column program ∷ [] else []
+offset_columns program = if has_offset program then mps_offset_column program ∷ [] else []
 
 -- The columns of the file: those of the program, and `one` behind them where it stands.
-abbrev pub file_columns : LinearProgram → List FileColumn
-file_columns program = numbered_columns program ++ offset_columns program
+abbrev pub mps_columns : LinearProgram → List FileColumn
+mps_columns program = numbered_columns program ++ offset_columns program
 
 -- The blank and the letter of a row, and a blank: ` G `, ` L ` or ` E `, for a range ` G `
-abbrev pub kind_text : RowKind → List ℕ
-kind_text (One AtLeast right) = codes " G "
-kind_text (One AtMost right) = codes " L "
-kind_text (One Equal right) = codes " E "
-kind_text (Range low high) = codes " G "
+abbrev pub row_kind_text : RowKind → List ℕ
+row_kind_text (One AtLeast right) = codes " G "
+row_kind_text (One AtMost right) = codes " L "
+row_kind_text (One Equal right) = codes " E "
+row_kind_text (Range low high) = codes " G "
 
 -- ` G rI`, ` L rI` or ` E rI`
 abbrev pub row_text : NumberedRow → List ℕ
-row_text row = kind_text row.1.kind ++ (row_name row.0 ++ codes "\n")
+row_text row = row_kind_text row.1.kind ++ (row_name row.0 ++ codes "\n")
 
 -- ` NAME obj q`
 abbrev pub cost_text : List ℕ → Rational → List ℕ
@@ -179,7 +179,7 @@ mps_text program =
     codes "NAME zimplc\nROWS\n N obj\n"
     ++ (flat_map row_text (enumerate_from 1 program.rows)
     ++ (codes "COLUMNS\n"
-    ++ (columns_text (file_columns program)
+    ++ (columns_text (mps_columns program)
     ++ (codes "RHS\n"
     ++ (flat_map right_text (enumerate_from 1 program.rows)
-    ++ (ranges_text program.rows ++ (codes "BOUNDS\n" ++ (flat_map bound_text (file_columns program) ++ codes "ENDATA\n"))))))))
+    ++ (ranges_text program.rows ++ (codes "BOUNDS\n" ++ (flat_map bound_text (mps_columns program) ++ codes "ENDATA\n"))))))))

@@ -6,7 +6,7 @@ ghost use Rattle.zim_gate.specs.Pen.{Writes};
 ghost use Rattle.zim_rows.specs.Covered.{written_side};
 ghost use Rattle.zim_rows.specs.Finished.{program_of};
 ghost use Rattle.zim_mps.specs.Puts.{name_text, column_sides_text, IsShortSide};
-ghost use Rattle.zim_mps.specs.Text.{file_columns, offset_columns, bound_text, end_text, infinite_text, sides_text};
+ghost use Rattle.zim_mps.specs.Text.{mps_columns, offset_columns, bound_text, end_text, infinite_text, sides_text};
 
 use crate::names::{ColumnName, put_name, put_number};
 use zim_decimal::is_short as fits;
@@ -17,7 +17,7 @@ use zim_rows::{Column, Finished};
 
 /// Puts the lines of BOUNDS.
 pub(crate) fn put_bounds<F: Folder>(pen: &mut Pen<F>, system: &Finished)
-    ensures { Writes F.state pen.old pen.new (flat_map bound_text (file_columns (program_of system.now))) }
+    ensures { Writes F.state pen.old pen.new (flat_map bound_text (mps_columns (program_of system.now))) }
 {
     put_numbered_bounds(pen, system.columns.as_slice());
     put_offset_bounds(pen, system);

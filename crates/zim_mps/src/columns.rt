@@ -5,7 +5,7 @@ ghost use Rattle.zim_gate.specs.Pen.{Writes};
 ghost use Rattle.zim_rows.specs.Finished.{program_of};
 ghost use Rattle.zim_rows.specs.Program.{IsShortTerm};
 ghost use Rattle.zim_mps.specs.Puts.{name_text, offset_text};
-ghost use Rattle.zim_mps.specs.Text.{numbered_columns, file_columns, cost_text, entry_text, marker_text, columns_front, last_mark, columns_text};
+ghost use Rattle.zim_mps.specs.Text.{numbered_columns, mps_columns, cost_text, entry_text, marker_text, columns_front, last_mark, columns_text};
 
 use crate::costs::{minimised_cost, split_cost};
 use crate::names::{ColumnName, put_name, put_number, put_row_name};
@@ -16,7 +16,7 @@ use zim_rows::Finished;
 
 /// Puts the lines of COLUMNS.
 pub(crate) fn put_columns<F: Folder>(pen: &mut Pen<F>, system: &Finished)
-    ensures { Writes F.state pen.old pen.new (columns_text (file_columns (program_of system.now))) }
+    ensures { Writes F.state pen.old pen.new (columns_text (mps_columns (program_of system.now))) }
 {
     let last = put_numbered_columns(pen, system);
     put_marker(pen, last, false);

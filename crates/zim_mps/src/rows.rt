@@ -7,7 +7,7 @@ ghost use Rattle.zim_gate.specs.Pen.{Writes};
 ghost use Rattle.zim_rows.specs.Program.{IsShortKind, IsShortRange};
 ghost use Rattle.zim_mps.specs.Puts.{HasShortKind};
 ghost use Rattle.zim_mps.specs.Text as exact;
-ghost use Rattle.zim_mps.specs.Text.{kind_text, row_text, right_text, range_text, range_text_of, ranges_text};
+ghost use Rattle.zim_mps.specs.Text.{row_kind_text, row_text, right_text, range_text, range_text_of, ranges_text};
 
 use crate::names::{put_number, put_row_name};
 use zim_fraction::{Fraction, sub};
@@ -32,7 +32,7 @@ fn put_row<F: Folder>(pen: &mut Pen<F>, number: usize, row: &Row)
 }
 
 fn letter_of(kind: &RowKind) -> &'static [u8]
-    ensures { result.now ≡ kind_text kind.now }
+    ensures { result.now ≡ row_kind_text kind.now }
 {
     match kind {
         RowKind::One(Sense::AtLeast, _) | RowKind::Range(_, _) => b" G ",

@@ -6,7 +6,7 @@ use Rattle.std.specs.Map.{keys_of, lookup}
 use Rattle.std.specs.Option.{option_or}
 use Rattle.zim_params.specs.declared.param.InsertFault.{InsertFault}
 use Rattle.zim_params.specs.declared.param.InsertFault.TheVariants.{Twice}
-use Rattle.zim_tuples.specs.Elements.{same}
+use Rattle.zim_tuples.specs.Elements.{same_element}
 use Rattle.zim_tuples.specs.declared.elements.Elem.{Elem}
 
 -- the values of a parameter: the indices to which one was given, in order of insertion, each with its value, and the
@@ -17,11 +17,11 @@ pub record Values (V : Type 0) : Type 0 where
 
 -- no index stands twice
 abbrev pub AreDistinct : {V : Type 0} → List (List Elem × V) → Type 0
-AreDistinct entries = IsDistinct (pointwise same) (keys_of entries)
+AreDistinct entries = IsDistinct (pointwise same_element) (keys_of entries)
 
 -- the value that was given to the index
 abbrev pub own_value : {V : Type 0} → Values V → List Elem → Option V
-own_value values index = lookup (pointwise same index) values.entries
+own_value values index = lookup (pointwise same_element index) values.entries
 
 -- the parameter's value at the index: the one that was given to it, else the default
 unfoldable pub value_at : {V : Type 0} → Values V → List Elem → Option V

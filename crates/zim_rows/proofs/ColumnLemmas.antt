@@ -7,7 +7,7 @@ use Rattle.std.proofs.Common.{false, Option, IsTrue}
 use Rattle.zim_linear.specs.Ends.{IsUncrossed}
 use Rattle.zim_rows.specs.declared.rows.GivenRow.{GivenRow}
 use Rattle.zim_rows.specs.declared.rows.Objective.{Objective}
-use Rattle.zim_rows.specs.System.{LinearSystem, IsSystem, IsKept, AreWholeSides, with_column, most}
+use Rattle.zim_rows.specs.System.{LinearSystem, IsSystem, IsKeptSystem, AreWholeSides, with_column, most_in_system}
 use Rattle.zim_rows.proofs.SystemLemmas.{IsSystem-column}
 use Rattle.zim_linear.specs.Ends.{unbounded}
 use Rattle.zim_rows.specs.System.{column_of, columns_of, column_at}
@@ -67,26 +67,26 @@ mark_is marks ms sides columns j b paired is e from_one within read =
 abbrev kept_system : List Column → List GivenRow → Option Objective → LinearSystem
 kept_system columns rows objective = record { columns = columns; rows = rows; objective = objective }
 
-pub count_is : (system : LinearSystem) (marks : List Bool) (sides : List Sides) (rows : List GivenRow) (objective : Option Objective) → IsKept marks sides rows objective → ◌≡◌ {A = LinearSystem} (record { columns = columns_of marks sides; rows = rows; objective = objective }) system → length system.columns ≡ length sides
+pub count_is : (system : LinearSystem) (marks : List Bool) (sides : List Sides) (rows : List GivenRow) (objective : Option Objective) → IsKeptSystem marks sides rows objective → ◌≡◌ {A = LinearSystem} (record { columns = columns_of marks sides; rows = rows; objective = objective }) system → length system.columns ≡ length sides
 count_is system marks sides rows objective kept view =
     ap (λ (s : LinearSystem). length s.columns) (sym view) ∙ length-columns_of marks sides kept.paired
 
 -- what holds of the system as it is kept holds of it as contracts see it
-pub is_valid : (system : LinearSystem) (marks : List Bool) (sides : List Sides) (rows : List GivenRow) (objective : Option Objective) → IsKept marks sides rows objective → ◌≡◌ {A = LinearSystem} (record { columns = columns_of marks sides; rows = rows; objective = objective }) system → IsSystem system.columns system.rows system.objective
+pub is_valid : (system : LinearSystem) (marks : List Bool) (sides : List Sides) (rows : List GivenRow) (objective : Option Objective) → IsKeptSystem marks sides rows objective → ◌≡◌ {A = LinearSystem} (record { columns = columns_of marks sides; rows = rows; objective = objective }) system → IsSystem system.columns system.rows system.objective
 is_valid system marks sides rows objective kept view =
     subst (λ (s : LinearSystem). IsSystem s.columns s.rows s.objective) view kept.system
 
-pub count_within : (marks : List Bool) (sides : List Sides) (rows : List GivenRow) (objective : Option Objective) (n : ℕ) → IsKept marks sides rows objective → n ≡ length sides → n ≤ 1000000
+pub count_within : (marks : List Bool) (sides : List Sides) (rows : List GivenRow) (objective : Option Objective) (n : ℕ) → IsKeptSystem marks sides rows objective → n ≡ length sides → n ≤ 1000000
 count_within marks sides rows objective n kept e =
     let few = kept.system.few_columns in
     let same = length-columns_of marks sides kept.paired in
     omega arith
 
-pub is_full : (system : LinearSystem) (marks : List Bool) (sides : List Sides) (rows : List GivenRow) (objective : Option Objective) (n : ℕ) → IsKept marks sides rows objective → ◌≡◌ {A = LinearSystem} (record { columns = columns_of marks sides; rows = rows; objective = objective }) system → n ≡ length sides → 1000000 ≤ n → most ≤ length system.columns
+pub is_full : (system : LinearSystem) (marks : List Bool) (sides : List Sides) (rows : List GivenRow) (objective : Option Objective) (n : ℕ) → IsKeptSystem marks sides rows objective → ◌≡◌ {A = LinearSystem} (record { columns = columns_of marks sides; rows = rows; objective = objective }) system → n ≡ length sides → 1000000 ≤ n → most_in_system ≤ length system.columns
 is_full system marks sides rows objective n kept view len full =
     let e = count_is system marks sides rows objective kept view in omega arith
 
-pub has_room : (system : LinearSystem) (marks : List Bool) (sides : List Sides) (rows : List GivenRow) (objective : Option Objective) (n : ℕ) → IsKept marks sides rows objective → ◌≡◌ {A = LinearSystem} (record { columns = columns_of marks sides; rows = rows; objective = objective }) system → n ≡ length sides → n < 1000000 → length system.columns < most
+pub has_room : (system : LinearSystem) (marks : List Bool) (sides : List Sides) (rows : List GivenRow) (objective : Option Objective) (n : ℕ) → IsKeptSystem marks sides rows objective → ◌≡◌ {A = LinearSystem} (record { columns = columns_of marks sides; rows = rows; objective = objective }) system → n ≡ length sides → n < 1000000 → length system.columns < most_in_system
 has_room system marks sides rows objective n kept view len room =
     let e = count_is system marks sides rows objective kept view in omega arith
 
@@ -94,7 +94,7 @@ pub column_refused : (system : LinearSystem) (marks ms : List Bool) (sides ss : 
 column_refused system marks ms sides ss rows objective view e f =
     ap₂ (λ (bs : List Bool) (ts : List Sides). kept_system (columns_of bs ts) rows objective) e f ∙ view
 
-pub column_kept : (marks ms : List Bool) (sides ss : List Sides) (rows : List GivenRow) (objective : Option Objective) (mark : Bool) (pair : Sides) (n : ℕ) → IsKept marks sides rows objective → n ≡ length sides → n < 1000000 → IsUncrossed pair → (IsTrue mark → AreWholeSides pair) → ms ≡ marks ++ mark ∷ [] → ss ≡ sides ++ pair ∷ [] → IsKept ms ss rows objective
+pub column_kept : (marks ms : List Bool) (sides ss : List Sides) (rows : List GivenRow) (objective : Option Objective) (mark : Bool) (pair : Sides) (n : ℕ) → IsKeptSystem marks sides rows objective → n ≡ length sides → n < 1000000 → IsUncrossed pair → (IsTrue mark → AreWholeSides pair) → ms ≡ marks ++ mark ∷ [] → ss ≡ sides ++ pair ∷ [] → IsKeptSystem ms ss rows objective
 column_kept marks ms sides ss rows objective mark pair n kept len room uncrossed whole e f =
     let long = length-columns_of marks sides kept.paired in
     let same = kept.paired in record {
@@ -106,14 +106,14 @@ column_kept marks ms sides ss rows objective mark pair n kept len room uncrossed
           (IsSystem-column (columns_of marks sides) rows objective (column_of mark pair) kept.system (omega arith) (record { uncrossed = uncrossed; whole = whole }));
     }
 
-pub column_added : (system : LinearSystem) (marks ms : List Bool) (sides ss : List Sides) (rows : List GivenRow) (objective : Option Objective) (mark : Bool) (pair : Sides) → IsKept marks sides rows objective → ◌≡◌ {A = LinearSystem} (record { columns = columns_of marks sides; rows = rows; objective = objective }) system → ms ≡ marks ++ mark ∷ [] → ss ≡ sides ++ pair ∷ [] → ◌≡◌ {A = LinearSystem} (record { columns = columns_of ms ss; rows = rows; objective = objective }) (with_column system (column_of mark pair))
+pub column_added : (system : LinearSystem) (marks ms : List Bool) (sides ss : List Sides) (rows : List GivenRow) (objective : Option Objective) (mark : Bool) (pair : Sides) → IsKeptSystem marks sides rows objective → ◌≡◌ {A = LinearSystem} (record { columns = columns_of marks sides; rows = rows; objective = objective }) system → ms ≡ marks ++ mark ∷ [] → ss ≡ sides ++ pair ∷ [] → ◌≡◌ {A = LinearSystem} (record { columns = columns_of ms ss; rows = rows; objective = objective }) (with_column system (column_of mark pair))
 column_added system marks ms sides ss rows objective mark pair kept view e f =
     subst
     (λ (s : LinearSystem). ◌≡◌ {A = LinearSystem} (record { columns = columns_of ms ss; rows = rows; objective = objective }) (with_column s (column_of mark pair)))
     view
     (ap (λ (cs : List Column). kept_system cs rows objective) (ap₂ columns_of e f ∙ columns_of-push marks sides mark pair kept.paired))
 
-pub number_is : (system : LinearSystem) (marks : List Bool) (sides ss : List Sides) (rows : List GivenRow) (objective : Option Objective) (pair : Sides) (n : ℕ) → IsKept marks sides rows objective → ◌≡◌ {A = LinearSystem} (record { columns = columns_of marks sides; rows = rows; objective = objective }) system → ss ≡ sides ++ pair ∷ [] → n ≡ length ss → n ≡ length system.columns + 1
+pub number_is : (system : LinearSystem) (marks : List Bool) (sides ss : List Sides) (rows : List GivenRow) (objective : Option Objective) (pair : Sides) (n : ℕ) → IsKeptSystem marks sides rows objective → ◌≡◌ {A = LinearSystem} (record { columns = columns_of marks sides; rows = rows; objective = objective }) system → ss ≡ sides ++ pair ∷ [] → n ≡ length ss → n ≡ length system.columns + 1
 number_is system marks sides ss rows objective pair n kept view f len =
     let e = count_is system marks sides rows objective kept view in
     let long : length (sides ++ pair ∷ []) ≡ length sides + 1 = simp length-append (omega arith) in

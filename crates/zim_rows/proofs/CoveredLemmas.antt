@@ -5,7 +5,7 @@ use Rattle.zim_rational.specs.Rational as rational
 use Rattle.zim_rational.specs.Rational.{Rational, one, plus, IsAtMost}
 use Rattle.zim_rational.proofs.Ring.{plus_zero, one_times}
 use Rattle.zim_decimal.specs.Short.{is_short}
-use Rattle.zim_linear.specs.Forms.{Assignment, sum_at}
+use Rattle.zim_linear.specs.Forms.{ColumnNumbers, sum_at}
 use Rattle.zim_linear.proofs.FormLaws.{sum_at_none, sum_at_more}
 use Rattle.zim_rows.specs.declared.rows.Column.{Column}
 use Rattle.zim_rows.specs.declared.rows.GivenRow.{GivenRow}
@@ -20,20 +20,20 @@ use Rattle.zim_rows.specs.Covered.{StandsAsRow, IsCoveredColumn, IsCovered, writ
 use Rattle.zim_rows.proofs.PointLemmas.{same_points}
 
 -- a row's terms come to what it asks for
-abbrev KeepsGiven : Assignment → GivenRow → Type 0
+abbrev KeepsGiven : ColumnNumbers → GivenRow → Type 0
 KeepsGiven x row = KeepsKind row.kind (sum_at x row.terms)
 
-kept_each : (x : Assignment) (rows : List GivenRow) → KeepConstraints x (map given_constraint rows) → All (KeepsGiven x) rows
+kept_each : (x : ColumnNumbers) (rows : List GivenRow) → KeepConstraints x (map given_constraint rows) → All (KeepsGiven x) rows
 kept_each x [] h = All-nil (KeepsGiven x)
 kept_each x (row ∷ rows) h = All-cons (KeepsGiven x) row rows h.0 (kept_each x rows h.1)
 
 -- the sum of one column is what the column is
-alone : (x : Assignment) (j : ℕ) → sum_at x ((j, one) ∷ []) ≡ x j
+alone : (x : ColumnNumbers) (j : ℕ) → sum_at x ((j, one) ∷ []) ≡ x j
 alone x j =
     sum_at_more x (j, one) [] ∙ ap₂ plus (one_times (x j)) (sum_at_none x) ∙ plus_zero (x j)
 
 -- a row that stands for a side says the side of its column
-said : (x : Assignment) (rows : List GivenRow) (j : ℕ) (sense : Sense) (v : Rational) → KeepConstraints x (map given_constraint rows) → StandsAsRow rows j sense v → Compares sense (x j) v
+said : (x : ColumnNumbers) (rows : List GivenRow) (j : ℕ) (sense : Sense) (v : Rational) → KeepConstraints x (map given_constraint rows) → StandsAsRow rows j sense v → Compares sense (x j) v
 said x rows j sense v kept r =
     let here : KeepsGiven x r.row = All-contains (KeepsGiven x) rows r.row (kept_each x rows kept) r.stands in
     subst (λ (sum : Rational). Compares sense sum v) (ap (sum_at x) r.terms ∙ alone x j) (subst (λ (kind : RowKind). KeepsKind kind (sum_at x r.row.terms)) r.kind here)
@@ -42,17 +42,17 @@ side_back : (P : Rational → Type 0) (v : Rational) (b : Bool) → is_short v �
 side_back P v true e written long = written
 side_back P v false e written long = long e
 
-low_back : (x : Assignment) (rows : List GivenRow) (j : ℕ) (low : Option Rational) → KeepConstraints x (map given_constraint rows) → IfSome low (λ l. IsFalse (is_short l) → StandsAsRow rows j AtLeast l) → IfSome (written_side low) (λ l. IsAtMost l (x j)) → IfSome low (λ l. IsAtMost l (x j))
+low_back : (x : ColumnNumbers) (rows : List GivenRow) (j : ℕ) (low : Option Rational) → KeepConstraints x (map given_constraint rows) → IfSome low (λ l. IsFalse (is_short l) → StandsAsRow rows j AtLeast l) → IfSome (written_side low) (λ l. IsAtMost l (x j)) → IfSome low (λ l. IsAtMost l (x j))
 low_back x rows j None kept covered h = tt
 low_back x rows j (Some l) kept covered h =
     side_back (λ l. IsAtMost l (x j)) l (is_short l) refl h (λ long. said x rows j AtLeast l kept (covered long))
 
-high_back : (x : Assignment) (rows : List GivenRow) (j : ℕ) (high : Option Rational) → KeepConstraints x (map given_constraint rows) → IfSome high (λ u. IsFalse (is_short u) → StandsAsRow rows j AtMost u) → IfSome (written_side high) (λ u. IsAtMost (x j) u) → IfSome high (λ u. IsAtMost (x j) u)
+high_back : (x : ColumnNumbers) (rows : List GivenRow) (j : ℕ) (high : Option Rational) → KeepConstraints x (map given_constraint rows) → IfSome high (λ u. IsFalse (is_short u) → StandsAsRow rows j AtMost u) → IfSome (written_side high) (λ u. IsAtMost (x j) u) → IfSome high (λ u. IsAtMost (x j) u)
 high_back x rows j None kept covered h = tt
 high_back x rows j (Some u) kept covered h =
     side_back (λ u. IsAtMost (x j) u) u (is_short u) refl h (λ long. said x rows j AtMost u kept (covered long))
 
-column_back : (x : Assignment) (rows : List GivenRow) (j : ℕ) (column : Column) → KeepConstraints x (map given_constraint rows) → IsCoveredColumn rows j column → KeepsColumn (written_column column) (x j) → KeepsColumn column (x j)
+column_back : (x : ColumnNumbers) (rows : List GivenRow) (j : ℕ) (column : Column) → KeepConstraints x (map given_constraint rows) → IsCoveredColumn rows j column → KeepsColumn (written_column column) (x j) → KeepsColumn column (x j)
 column_back x rows j column kept covered h = record {
   between = record {
     low = low_back x rows j column.sides.low kept covered.low h.between.low;
@@ -64,7 +64,7 @@ column_back x rows j column kept covered h = record {
 default : Column
 default = column_of false unbounded
 
-columns_back : (x : Assignment) (rows : List GivenRow) (n : ℕ) (columns : List Column) (numbers : List Rational) → KeepConstraints x (map given_constraint rows) → ((i : ℕ) → i < length columns → IsCoveredColumn rows (n + i) (get_or columns i default)) → ((i : ℕ) → i < length numbers → get_or numbers i rational.zero ≡ x (n + i)) → KeepColumns (map written_column columns) numbers → KeepColumns columns numbers
+columns_back : (x : ColumnNumbers) (rows : List GivenRow) (n : ℕ) (columns : List Column) (numbers : List Rational) → KeepConstraints x (map given_constraint rows) → ((i : ℕ) → i < length columns → IsCoveredColumn rows (n + i) (get_or columns i default)) → ((i : ℕ) → i < length numbers → get_or numbers i rational.zero ≡ x (n + i)) → KeepColumns (map written_column columns) numbers → KeepColumns columns numbers
 columns_back x rows n [] [] kept covered are h = tt
 columns_back x rows n [] (v ∷ vs) kept covered are h = h
 columns_back x rows n (c ∷ cs) [] kept covered are h = h

@@ -3,7 +3,7 @@ use Rattle.std.proofs.Common.{ℕ, ◌≡◌, ◌<◌, ◌≤◌, ◌-◌, List,
 use Rattle.std.proofs.lemmas.List.{map-append, get_or-take}
 use Rattle.std.proofs.lemmas.List.Elements.{All-head, All-tail}
 use Rattle.zim_rational.specs.Rational.{Rational, zero, plus, times}
-use Rattle.zim_linear.specs.Forms.{Term, Assignment, AreColumns, sum_at, number_at}
+use Rattle.zim_linear.specs.Forms.{Term, ColumnNumbers, AreColumns, sum_at, number_at}
 use Rattle.zim_linear.proofs.FormLaws.{sum_at_none, sum_at_more}
 use Rattle.zim_rows.specs.declared.rows.Column.{Column}
 use Rattle.zim_rows.specs.declared.rows.GivenRow.{GivenRow}
@@ -16,7 +16,7 @@ columns_cut [] more numbers h = tt
 columns_cut (c ∷ cs) more [] h = absurd h
 columns_cut (c ∷ cs) more (v ∷ vs) h = (h.0, columns_cut cs more vs h.1)
 
-pub rows_before : (x : Assignment) (rows more : List Constraint) → KeepConstraints x (rows ++ more) → KeepConstraints x rows
+pub rows_before : (x : ColumnNumbers) (rows more : List Constraint) → KeepConstraints x (rows ++ more) → KeepConstraints x rows
 rows_before x [] more h = tt
 rows_before x (c ∷ cs) more h = (h.0, rows_before x cs more h.1)
 

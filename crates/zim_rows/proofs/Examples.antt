@@ -8,8 +8,8 @@ use Rattle.zim_linear.specs.Forms.{form_of, sum_at}
 use Rattle.zim_rows.specs.declared.rows.RowKind.TheVariants.{One, Range}
 use Rattle.zim_rows.specs.declared.rows.Sense.TheVariants.{AtLeast, AtMost}
 use Rattle.zim_rows.specs.Points.{KeepsKind}
-use Rattle.zim_rows.specs.Factors.{factor_from, row_factor, form_factor, scaled, kind_within}
-use Rattle.zim_linear.specs.Forms.{Assignment}
+use Rattle.zim_rows.specs.Factors.{factor_from, row_factor, form_factor, times_factor, kind_within}
+use Rattle.zim_linear.specs.Forms.{ColumnNumbers}
 use Rattle.zim_rational.specs.Rational.{total}
 
 abbrev third : Rational
@@ -26,16 +26,16 @@ three_fractions : row_factor ((1, third) ∷ ((2, half) ∷ [])) (One AtMost sev
 unfolding factor_from part ratio gcd lcm euclid
 three_fractions = refl
 
-first_coefficient : scaled 21 third ≡ whole (pos 7)
-unfolding scaled times whole ratio gcd euclid
+first_coefficient : times_factor 21 third ≡ whole (pos 7)
+unfolding times_factor times whole ratio gcd euclid
 first_coefficient = same_from_parts _ _ refl refl
 
-second_coefficient : scaled 21 half ≡ ratio (pos 21) 2
-unfolding scaled times whole ratio gcd euclid
+second_coefficient : times_factor 21 half ≡ ratio (pos 21) 2
+unfolding times_factor times whole ratio gcd euclid
 second_coefficient = same_from_parts _ _ refl refl
 
-right_side : scaled 21 seventh ≡ whole (pos 3)
-unfolding scaled times whole ratio gcd euclid
+right_side : times_factor 21 seventh ≡ whole (pos 3)
+unfolding times_factor times whole ratio gcd euclid
 right_side = same_from_parts _ _ refl refl
 
 -- 2/3 x + 5 has the factor 3, and is 2 x + 15
@@ -43,8 +43,8 @@ objective_factor : form_factor (form_of ((1, ratio (pos 2) 3) ∷ []) (whole (po
 unfolding factor_from part whole ratio gcd lcm euclid
 objective_factor = refl
 
-objective_constant : scaled 3 (whole (pos 5)) ≡ whole (pos 15)
-unfolding scaled times whole ratio gcd euclid
+objective_constant : times_factor 3 (whole (pos 5)) ≡ whole (pos 15)
+unfolding times_factor times whole ratio gcd euclid
 objective_constant = same_from_parts _ _ refl refl
 
 -- the constant 1/3 alone has the factor 3, and is 1
@@ -52,8 +52,8 @@ constant_factor : form_factor (form_of [] third) ≡ 3
 unfolding factor_from part ratio gcd lcm euclid
 constant_factor = refl
 
-constant_alone : scaled 3 third ≡ one
-unfolding scaled times one whole ratio gcd euclid
+constant_alone : times_factor 3 third ≡ one
+unfolding times_factor times one whole ratio gcd euclid
 constant_alone = same_from_parts _ _ refl refl
 
 -- x >= 1/3 has the factor 3; 1/3 itself isn't short
@@ -70,7 +70,7 @@ no_terms : row_factor [] (One AtMost (whole (negsuc 0))) ≡ 1
 unfolding factor_from part whole gcd lcm euclid
 no_terms = refl
 
-no_point : (x : Assignment) → ¬ KeepsKind (One AtMost (whole (negsuc 0))) (sum_at x [])
+no_point : (x : ColumnNumbers) → ¬ KeepsKind (One AtMost (whole (negsuc 0))) (sum_at x [])
 unfolding sum_at total zero at_most whole
 no_point x h = cc
 
@@ -79,10 +79,10 @@ range_factor : row_factor ((1, one) ∷ ((2, one) ∷ [])) (Range (whole (pos 2)
 unfolding factor_from part one whole gcd lcm euclid
 range_factor = refl
 
-range_difference : minus (scaled 1 (whole (pos 8))) (scaled 1 (whole (pos 2))) ≡ whole (pos 6)
-unfolding minus plus negate scaled times whole ratio gcd euclid
+range_difference : minus (times_factor 1 (whole (pos 8))) (times_factor 1 (whole (pos 2))) ≡ whole (pos 6)
+unfolding minus plus negate times_factor times whole ratio gcd euclid
 range_difference = same_from_parts _ _ refl refl
 
 range_within : kind_within 1 (Range (whole (pos 2)) (whole (pos 8))) ≡ true
-unfolding kind_within is_sum_within negate scaled times whole ratio gcd lcm euclid
+unfolding kind_within is_sum_within negate times_factor times whole ratio gcd lcm euclid
 range_within = refl

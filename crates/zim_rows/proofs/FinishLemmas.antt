@@ -7,7 +7,7 @@ use Rattle.zim_rows.specs.declared.rows.GivenRow.{GivenRow}
 use Rattle.zim_rows.specs.declared.rows.Row.{Row}
 use Rattle.zim_rows.specs.declared.rows.Objective.{Objective}
 use Rattle.zim_rows.specs.declared.rows.Target.{Target}
-use Rattle.zim_rows.specs.System.{LinearSystem, columns_of, IsSystem, IsKept}
+use Rattle.zim_rows.specs.System.{LinearSystem, columns_of, IsSystem, IsKeptSystem}
 use Rattle.zim_rows.specs.Program.{LinearProgram, HasSidesWithin, IsProgram}
 use Rattle.zim_rows.specs.Points.{IsSystemPoint, IsPoint, system_objective_at, objective_at}
 use Rattle.zim_rows.specs.Scaled.{scaled_row, scaled_target, scaled_program, rows_fault, objective_fault}
@@ -26,7 +26,7 @@ pub record IsFinishing (system : LinearSystem) (columns : List Column) (made : L
   pub rows_are : (rows_fault system.rows ≡ None) × (made ≡ map scaled_row system.rows)
   pub target_is : (objective_fault system.objective ≡ None) × (target ≡ scaled_target system.objective)
 
-pub finishing : (system : LinearSystem) (marks ms : List Bool) (sides ss : List Sides) (rows rs : List GivenRow) (objective : Option Objective) (columns : List Column) (made : List Row) (target : Target) → IsKept marks sides rows objective → ◌≡◌ {A = LinearSystem} (record { columns = columns_of marks sides; rows = rows; objective = objective }) system → rs ≡ rows → (rows_fault rs ≡ None) × (made ≡ map scaled_row rs) → (objective_fault objective ≡ None) × (target ≡ scaled_target objective) → ms ≡ marks → ss ≡ sides → columns ≡ columns_of ms ss → All HasSidesWithin columns → IsFinishing system columns made target
+pub finishing : (system : LinearSystem) (marks ms : List Bool) (sides ss : List Sides) (rows rs : List GivenRow) (objective : Option Objective) (columns : List Column) (made : List Row) (target : Target) → IsKeptSystem marks sides rows objective → ◌≡◌ {A = LinearSystem} (record { columns = columns_of marks sides; rows = rows; objective = objective }) system → rs ≡ rows → (rows_fault rs ≡ None) × (made ≡ map scaled_row rs) → (objective_fault objective ≡ None) × (target ≡ scaled_target objective) → ms ≡ marks → ss ≡ sides → columns ≡ columns_of ms ss → All HasSidesWithin columns → IsFinishing system columns made target
 finishing system marks ms sides ss rows rs objective columns made target kept view slice rows_made target_made e f columns_made within =
     let all : rs ≡ system.rows = slice ∙ ap (λ (s : LinearSystem). s.rows) view in
     record {

@@ -76,7 +76,7 @@ high_same None v = (λ h. tt, λ h. tt)
 high_same (Some u) v = (λ h. h, λ h. h)
 
 -- a number keeps a column of a file exactly where it keeps the program's column with the sides that files have
-keeps_same : (number : ℕ) (column : Column) (v : Rational) → KeepsColumn (written_column column) v ↔ instance.KeepsColumn (named_column (number, column)).column v
+keeps_same : (number : ℕ) (column : Column) (v : Rational) → KeepsColumn (written_column column) v ↔ instance.KeepsNamedColumn (named_column (number, column)).column v
 keeps_same number column v =
     let low = low_same (written_column column).sides.low v in
     let high = high_same (written_column column).sides.high v in (

@@ -13,7 +13,7 @@ use Rattle.zim_rational.proofs.Ring.{one_times, times_one, plus_zero}
 use Rattle.zim_rational.proofs.Sums.{total_append}
 use Rattle.zim_rational.proofs.Whole.{same_Decides}
 use Rattle.zim_instance.specs.Instance as instance
-use Rattle.zim_instance.specs.Instance.{Instance, Point, KeepsName, IsFrom, IsUpTo, number_at}
+use Rattle.zim_instance.specs.Instance.{Instance, Point, KeepsName, IsFrom, IsUpTo, number_named}
 use Rattle.zim_instance.specs.System as named
 use Rattle.zim_instance.specs.System.{Says, numbers_of, point_of, KeepsColumns}
 use Rattle.zim_instance.proofs.Points.{IsPoint-point_of, IsSolution-numbers_of, IsPoint-is_point_of, numbers_of-point_of}
@@ -31,16 +31,16 @@ use Rattle.zim_rows.specs.Represents.{numbers_in_file, Represents}
 use Rattle.zim_rows.proofs.NamedLaws.{columns_from, offset_columns, offset_numbers, file_columns_distinct, offset_found, columns_same, one_keeps, kept_length}
 
 -- sums over names are sums over the numbers in the file
-products_in_file : (n : ℕ) (point : Point) (terms : List Term) → AreColumns n terms → map (λ (t : instance.Term). times t.coefficient (number_at point t.name)) (map named_term terms) ≡ map (λ (t : Term). times t.1 (assigned (numbers_in_file n point) t.0)) terms
+products_in_file : (n : ℕ) (point : Point) (terms : List Term) → AreColumns n terms → map (λ (t : instance.NamedTerm). times t.coefficient (number_named point t.name)) (map named_term terms) ≡ map (λ (t : Term). times t.1 (assigned (numbers_in_file n point) t.0)) terms
 products_in_file n point [] each = refl
 products_in_file n point (t ∷ ts) each =
     let some : 0 < t.0 = each.0 in
     let few : t.0 ≤ n = each.1 in
-    let same : assigned (numbers_in_file n point) t.0 ≡ number_at point (column_name t.0) =
-    get_or-map-range_with_len (λ (j : ℕ). number_at point (column_name j)) 1 n (t.0 - 1) t.0 rational.zero (omega arith) (omega arith) in
+    let same : assigned (numbers_in_file n point) t.0 ≡ number_named point (column_name t.0) =
+    get_or-map-range_with_len (λ (j : ℕ). number_named point (column_name j)) 1 n (t.0 - 1) t.0 rational.zero (omega arith) (omega arith) in
     rw (same, products_in_file n point ts each.2) refl
 
-pub sum_in_file : (n : ℕ) (point : Point) (terms : List Term) → AreColumns n terms → instance.sum_at point (map named_term terms) ≡ sum_at (assigned (numbers_in_file n point)) terms
+pub sum_in_file : (n : ℕ) (point : Point) (terms : List Term) → AreColumns n terms → instance.sum_of_named point (map named_term terms) ≡ sum_at (assigned (numbers_in_file n point)) terms
 unfolding sum_at
 sum_in_file n point terms each = ap total (products_in_file n point terms each)
 
@@ -72,26 +72,26 @@ rows_in_file n point (row ∷ rows) each =
 
 -- what a point gives to `one`, where it stands
 abbrev offset_in_file : Bool → Point → List Rational
-offset_in_file b point = if b then number_at point offset_name ∷ [] else []
+offset_in_file b point = if b then number_named point offset_name ∷ [] else []
 
-numbers_from : (point : Point) (a : ℕ) (columns : List Column) (b : Bool) → numbers_of point (columns_from a columns ++ offset_columns b) ≡ map (λ (j : ℕ). number_at point (column_name j)) (range_with_len a (length columns)) ++ offset_in_file b point
+numbers_from : (point : Point) (a : ℕ) (columns : List Column) (b : Bool) → numbers_of point (columns_from a columns ++ offset_columns b) ≡ map (λ (j : ℕ). number_named point (column_name j)) (range_with_len a (length columns)) ++ offset_in_file b point
 numbers_from point a [] true = refl
 numbers_from point a [] false = refl
-numbers_from point a (c ∷ cs) b = ap (λ qs. number_at point (column_name a) ∷ qs) (numbers_from point (a + 1) cs b)
+numbers_from point a (c ∷ cs) b = ap (λ qs. number_named point (column_name a) ∷ qs) (numbers_from point (a + 1) cs b)
 
 -- the numbers of the file's columns are those of the program's columns, and that of `one`
 in_file : (p : LinearProgram) (point : Point) → numbers_of point (file_columns p) ≡ numbers_in_file (length p.columns) point ++ offset_in_file (has_offset p) point
 in_file p point = numbers_from point 1 p.columns (has_offset p)
 
 in_file_count : (n : ℕ) (point : Point) → length (numbers_in_file n point) ≡ n
-in_file_count n point = length-map-range_with_len (λ (j : ℕ). number_at point (column_name j)) 1 n
+in_file_count n point = length-map-range_with_len (λ (j : ℕ). number_named point (column_name j)) 1 n
 
 first_same : (xs us ys vs : List Rational) → xs ++ us ≡ ys ++ vs → length xs ≡ length ys → xs ≡ ys
 first_same xs us ys vs e count =
     sym (take-append_seam xs us) ∙ ap (take (length xs)) e ∙ ap (λ n. take n (ys ++ vs)) count ∙ take-append_seam ys vs
 
 -- the program with the columns of its files, with an objective over names in place of its own
-abbrev pub with_objective : LinearProgram → List instance.Term → Bool → named.System
+abbrev pub with_objective : LinearProgram → List instance.NamedTerm → Bool → named.System
 with_objective p objective maximises = record {
   columns = file_columns p;
   rows = map named_row p.rows;
@@ -104,7 +104,7 @@ one_kept None k = absurd k
 one_kept (Some q) k = ap (λ r. Some r) (at_most_antisymm q rational.one k.upper k.lower)
 
 -- at a point of the instance `one` is 1, where it stands
-pub one_is_one : (i : Instance) (p : LinearProgram) (objective : List instance.Term) (m : Bool) (point : Point) → Says i (with_objective p objective m) → instance.IsPoint i point → has_offset p ≡ true → point offset_name ≡ Some rational.one
+pub one_is_one : (i : Instance) (p : LinearProgram) (objective : List instance.NamedTerm) (m : Bool) (point : Point) → Says i (with_objective p objective m) → instance.IsInstancePoint i point → has_offset p ≡ true → point offset_name ≡ Some rational.one
 one_is_one i p objective m point says k e =
     one_kept
     (point offset_name)
@@ -115,11 +115,11 @@ offset_is_one true point one = ap (λ o. unwrap_or o rational.zero ∷ []) (one 
 offset_is_one false point one = refl
 
 -- the numbers of a point of the instance are those of the program's columns, and 1 for `one`
-file_is : (i : Instance) (p : LinearProgram) (objective : List instance.Term) (m : Bool) (point : Point) → Says i (with_objective p objective m) → instance.IsPoint i point → numbers_of point (file_columns p) ≡ file_numbers p (numbers_in_file (length p.columns) point)
+file_is : (i : Instance) (p : LinearProgram) (objective : List instance.NamedTerm) (m : Bool) (point : Point) → Says i (with_objective p objective m) → instance.IsInstancePoint i point → numbers_of point (file_columns p) ≡ file_numbers p (numbers_in_file (length p.columns) point)
 file_is i p objective m point says k =
     in_file p point ∙ ap (λ rest. numbers_in_file (length p.columns) point ++ rest) (offset_is_one (has_offset p) point (one_is_one i p objective m point says k))
 
-solves : (i : Instance) (p : LinearProgram) (objective : List instance.Term) (m : Bool) (point : Point) → Says i (with_objective p objective m) → IsProgram p.columns p.rows p.target → instance.IsPoint i point → IsPoint (written_program p) (numbers_in_file (length p.columns) point)
+solves : (i : Instance) (p : LinearProgram) (objective : List instance.NamedTerm) (m : Bool) (point : Point) → Says i (with_objective p objective m) → IsProgram p.columns p.rows p.target → instance.IsInstancePoint i point → IsPoint (written_program p) (numbers_in_file (length p.columns) point)
 solves i p objective m point says is k =
     let n : ℕ = length p.columns in
     let kept = (IsSolution-numbers_of i (with_objective p objective m) point says (file_columns_distinct p is) k).columns in
@@ -129,7 +129,7 @@ solves i p objective m point says is k =
       rows = (rows_in_file n point p.rows is.each_row).1 ((says.rows point).0 k.rows);
     }
 
-solved : (i : Instance) (p : LinearProgram) (objective : List instance.Term) (m : Bool) (numbers : List Rational) → Says i (with_objective p objective m) → IsProgram p.columns p.rows p.target → IsPoint (written_program p) numbers → (point : Point) × instance.IsPoint i point × (numbers_in_file (length p.columns) point ≡ numbers)
+solved : (i : Instance) (p : LinearProgram) (objective : List instance.NamedTerm) (m : Bool) (numbers : List Rational) → Says i (with_objective p objective m) → IsProgram p.columns p.rows p.target → IsPoint (written_program p) numbers → (point : Point) × instance.IsInstancePoint i point × (numbers_in_file (length p.columns) point ≡ numbers)
 solved i p objective m numbers says is k =
     let n : ℕ = length p.columns in
     let b : Bool = has_offset p in
@@ -143,7 +143,7 @@ solved i p objective m numbers says is k =
     let rows = (rows_in_file n point p.rows is.each_row).0 (subst (λ (ns : List Rational). KeepConstraints (assigned ns) (map constraint p.rows)) (sym same) k.rows) in
     (point, IsPoint-point_of i (with_objective p objective m) file says (record { columns = kept; rows = rows }), same)
 
-once : (i : Instance) (p : LinearProgram) (objective : List instance.Term) (m : Bool) (a b : Point) → Says i (with_objective p objective m) → instance.IsPoint i a → instance.IsPoint i b → numbers_in_file (length p.columns) a ≡ numbers_in_file (length p.columns) b → a ≡ b
+once : (i : Instance) (p : LinearProgram) (objective : List instance.NamedTerm) (m : Bool) (a b : Point) → Says i (with_objective p objective m) → instance.IsInstancePoint i a → instance.IsInstancePoint i b → numbers_in_file (length p.columns) a ≡ numbers_in_file (length p.columns) b → a ≡ b
 once i p objective m a b says k l e =
     let s : named.System = with_objective p objective m in
     let same : numbers_of a (file_columns p) ≡ numbers_of b (file_columns p) =
@@ -151,7 +151,7 @@ once i p objective m a b says k l e =
     IsPoint-is_point_of i s a says k ∙ ap (point_of (file_columns p)) same ∙ sym (IsPoint-is_point_of i s b says l)
 
 -- whatever the objective of the system, as long as it is the program's times a factor at each point
-pub represents_by : (i : Instance) (p : LinearProgram) (objective : List instance.Term) (m : Bool) (factor : ℤ) → Says i (with_objective p objective m) → IsProgram p.columns p.rows p.target → ((point : Point) → instance.IsPoint i point → instance.sum_at point objective ≡ times (whole factor) (objective_at p (numbers_in_file (length p.columns) point))) → Represents i p factor
+pub represents_by : (i : Instance) (p : LinearProgram) (objective : List instance.NamedTerm) (m : Bool) (factor : ℤ) → Says i (with_objective p objective m) → IsProgram p.columns p.rows p.target → ((point : Point) → instance.IsInstancePoint i point → instance.sum_of_named point objective ≡ times (whole factor) (objective_at p (numbers_in_file (length p.columns) point))) → Represents i p factor
 represents_by i p objective m factor says is sums = record {
   columns = says.columns;
   solves = λ point k. solves i p objective m point says is k;
@@ -172,20 +172,20 @@ constant_is_zero p e =
     (same_Decides p.target.constant rational.zero).0 (no_constant (length p.columns == 0) (same p.target.constant rational.zero) e)
 
 -- what the constant's term comes to
-offset_product : (b : Bool) (point : Point) (constant : Rational) → (b ≡ true → point offset_name ≡ Some rational.one) → (b ≡ false → constant ≡ rational.zero) → instance.sum_at point (if b then record { name = offset_name; coefficient = constant } ∷ [] else []) ≡ constant
+offset_product : (b : Bool) (point : Point) (constant : Rational) → (b ≡ true → point offset_name ≡ Some rational.one) → (b ≡ false → constant ≡ rational.zero) → instance.sum_of_named point (if b then record { name = offset_name; coefficient = constant } ∷ [] else []) ≡ constant
 unfolding total
 offset_product true point constant one none =
-    plus_zero (times constant (number_at point offset_name)) ∙ ap (λ o. times constant (unwrap_or o rational.zero)) (one refl) ∙ times_one constant
+    plus_zero (times constant (number_named point offset_name)) ∙ ap (λ o. times constant (unwrap_or o rational.zero)) (one refl) ∙ times_one constant
 offset_product false point constant one none = sym (none refl)
 
 -- a sum over names of two lists
-pub sum_at_both : (point : Point) (ss ts : List instance.Term) → instance.sum_at point (ss ++ ts) ≡ plus (instance.sum_at point ss) (instance.sum_at point ts)
+pub sum_at_both : (point : Point) (ss ts : List instance.NamedTerm) → instance.sum_of_named point (ss ++ ts) ≡ plus (instance.sum_of_named point ss) (instance.sum_of_named point ts)
 sum_at_both point ss ts =
-    let product : instance.Term → Rational = λ t. times t.coefficient (number_at point t.name) in
+    let product : instance.NamedTerm → Rational = λ t. times t.coefficient (number_named point t.name) in
     ap total (map-append product ss ts) ∙ total_append (map product ss) (map product ts)
 
 -- where `one` is 1, the objective over names is the program's
-pub objective_in_file : (p : LinearProgram) (point : Point) → IsProgram p.columns p.rows p.target → (has_offset p ≡ true → point offset_name ≡ Some rational.one) → instance.sum_at point (named_objective p) ≡ objective_at p (numbers_in_file (length p.columns) point)
+pub objective_in_file : (p : LinearProgram) (point : Point) → IsProgram p.columns p.rows p.target → (has_offset p ≡ true → point offset_name ≡ Some rational.one) → instance.sum_of_named point (named_objective p) ≡ objective_at p (numbers_in_file (length p.columns) point)
 objective_in_file p point is one =
     sum_at_both point (map named_term p.target.terms) (if has_offset p then record { name = offset_name; coefficient = p.target.constant } ∷ [] else [])
     ∙ ap₂ plus

@@ -18,8 +18,8 @@ use Rattle.zim_rows.specs.declared.rows.RowKind.{RowKind}
 use Rattle.zim_rows.specs.declared.rows.RowKind.TheVariants.{One, Range}
 use Rattle.zim_rows.specs.System.{IsColumn, IsKind, IsGivenRow, IsObjective, IsSystem}
 use Rattle.zim_rows.specs.Program.{IsShortTerm, IsShortKind, IsWithin, IsTermWithin, IsKindWithin, HasSidesWithin, IsRow, IsTarget, IsProgram}
-use Rattle.zim_rows.specs.Factors.{scaled, coefficients, right_sides, row_factor, form_factor, all_within, kind_within, row_within, form_within, AreShortTimes}
-use Rattle.zim_rows.specs.Scaled.{scaled_term, scaled_terms, scaled_kind, scaled_row, scaled_target, rows_fault, objective_fault, past_at}
+use Rattle.zim_rows.specs.Factors.{times_factor, coefficients, right_sides, row_factor, form_factor, all_within, kind_within, row_within, form_within, AreShortTimes}
+use Rattle.zim_rows.specs.Scaled.{scaled_term, scaled_terms, scaled_kind, scaled_row, scaled_target, rows_fault, objective_fault, past_fault}
 use Rattle.zim_rows.proofs.FactorLemmas.{factor_is_least}
 use Rattle.zim_rows.proofs.ScaleLemmas.{terms_scaled, columns_scaled, scaled_below}
 use Rattle.zim_rows.proofs.PointLemmas.{row_factor-pos, form_factor-pos}
@@ -42,22 +42,22 @@ short_kind k (Range low high) some is short within = record {
   short_low = short.0;
   short_high = short.1.0;
   below = scaled_below k low high some is;
-  difference = (and_parts (is_number (scaled k low) && is_number (scaled k high)) (is_sum_within (scaled k high) (negate (scaled k low))) within).1;
+  difference = (and_parts (is_number (times_factor k low) && is_number (times_factor k high)) (is_sum_within (times_factor k high) (negate (times_factor k low))) within).1;
 }
 
 terms_are_within : (k : ℕ) (ts : List Term) → IsTrue (all_within k (coefficients ts)) → All IsTermWithin (scaled_terms k ts)
 unfolding all_within
 terms_are_within k [] h = All-nil IsTermWithin
 terms_are_within k (t ∷ ts) h =
-    let both = and_parts (is_number (scaled k t.1)) (all_within k (coefficients ts)) h in
+    let both = and_parts (is_number (times_factor k t.1)) (all_within k (coefficients ts)) h in
     All-cons IsTermWithin (scaled_term k t) (scaled_terms k ts) both.0 (terms_are_within k ts both.1)
 
 kind_is_within : (k : ℕ) (kind : RowKind) → IsTrue (kind_within k kind) → IsKindWithin (scaled_kind k kind)
 unfolding kind_within
 kind_is_within k (One sense right) h = h
 kind_is_within k (Range low high) h =
-    let sides = and_parts (is_number (scaled k low) && is_number (scaled k high)) (is_sum_within (scaled k high) (negate (scaled k low))) h in
-    and_parts (is_number (scaled k low)) (is_number (scaled k high)) sides.0
+    let sides = and_parts (is_number (times_factor k low) && is_number (times_factor k high)) (is_sum_within (times_factor k high) (negate (times_factor k low))) h in
+    and_parts (is_number (times_factor k low)) (is_number (times_factor k high)) sides.0
 
 terms_part : (terms : List Term) (kind : RowKind) → IsTrue (row_within terms kind) → IsTrue (all_within (row_factor terms kind) (coefficients terms))
 unfolding row_within
@@ -97,7 +97,7 @@ stays false more fault e = absurd (cc)
 
 no_fault : (row : GivenRow) (rows : List GivenRow) → rows_fault (row ∷ rows) ≡ None → IsTrue (row_within row.terms row.kind) × (rows_fault rows ≡ None)
 unfolding rows_fault
-no_fault row rows e = stays (row_within row.terms row.kind) (rows_fault rows) (past_at row.from.place) e
+no_fault row rows e = stays (row_within row.terms row.kind) (rows_fault rows) (past_fault row.from.place) e
 
 pub scaled_are_rows : (n : ℕ) (rows : List GivenRow) → All (IsGivenRow n) rows → rows_fault rows ≡ None → All (IsRow n) (map scaled_row rows)
 scaled_are_rows n [] all none = All-nil (IsRow n)
@@ -116,18 +116,18 @@ unfolding rational.whole zero
 zero_within = refl
 
 -- the terms and the constant of an objective that isn't past
-form_numbers : (o : Objective) → objective_fault (Some o) ≡ None → All IsTermWithin (scaled_terms (form_factor o.form) o.form.terms) × IsWithin (scaled (form_factor o.form) o.form.constant)
+form_numbers : (o : Objective) → objective_fault (Some o) ≡ None → All IsTermWithin (scaled_terms (form_factor o.form) o.form.terms) × IsWithin (times_factor (form_factor o.form) o.form.constant)
 unfolding objective_fault form_within
 form_numbers o none =
     let k : ℕ = form_factor o.form in
-    let within = stays (form_within o.form) None (past_at o.place) none in
-    let parts = and_parts (all_within k (coefficients o.form.terms)) (is_number (scaled k o.form.constant)) (and_parts (nat_le k limit) _ within.0).1 in
+    let within = stays (form_within o.form) None (past_fault o.place) none in
+    let parts = and_parts (all_within k (coefficients o.form.terms)) (is_number (times_factor k o.form.constant)) (and_parts (nat_le k limit) _ within.0).1 in
     (terms_are_within k o.form.terms parts.0, parts.1)
 
 form_factor_within : (o : Objective) → objective_fault (Some o) ≡ None → form_factor o.form ≤ limit
 unfolding objective_fault form_within
 form_factor_within o none =
-    leb-true (form_factor o.form) limit (and_parts (nat_le (form_factor o.form) limit) _ (stays (form_within o.form) None (past_at o.place) none).0).0
+    leb-true (form_factor o.form) limit (and_parts (nat_le (form_factor o.form) limit) _ (stays (form_within o.form) None (past_fault o.place) none).0).0
 
 pub scaled_is_target : (n : ℕ) (objective : Option Objective) → IfSome objective (IsObjective n) → objective_fault objective ≡ None → IsTarget n (scaled_target objective)
 scaled_is_target n None is none = record {

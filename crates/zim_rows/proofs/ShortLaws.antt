@@ -12,7 +12,7 @@ use Rattle.zim_rational.proofs.Ring.{times_assoc}
 use Rattle.zim_rational.proofs.Whole.{whole_times}
 use Rattle.zim_decimal.specs.Short.{scale, part, is_short}
 use Rattle.zim_linear.proofs.WholeFormLaws.{whole_from_divides, divides_from_whole}
-use Rattle.zim_rows.specs.Factors.{scaled}
+use Rattle.zim_rows.specs.Factors.{times_factor}
 
 pub short_from_divides : (q : Rational) → q.denom ∣ scale → IsTrue (is_short q)
 unfolding is_short
@@ -60,22 +60,22 @@ from_times_scale d m some h =
     divides_other (scale / g) (d / g) m (gcd_comm (scale / g) (d / g) ∙ gcd_lowest d scale (omega arith)) rest
 
 -- k times a number, times 10^15
-times_both : (q : Rational) (k : ℕ) → times (scaled k q) (whole (pos scale)) ≡ times q (whole (pos (k * scale)))
-unfolding scaled
+times_both : (q : Rational) (k : ℕ) → times (times_factor k q) (whole (pos scale)) ≡ times q (whole (pos (k * scale)))
+unfolding times_factor
 times_both q k = times_assoc q (whole (pos k)) (whole (pos scale)) ∙ ap (times q) (whole_times (pos k) (pos scale))
 
 -- k times a number is short where what is left of its denominator divides k
-pub short_times : (q : Rational) (k : ℕ) → part q.denom ∣ k → IsTrue (is_short (scaled k q))
+pub short_times : (q : Rational) (k : ℕ) → part q.denom ∣ k → IsTrue (is_short (times_factor k q))
 short_times q k h =
     short_from_divides
-    (scaled k q)
+    (times_factor k q)
     (divides_from_whole
-    (scaled k q)
+    (times_factor k q)
     scale
     (subst (λ (r : Rational). IsTrue (is_whole r)) (sym (times_both q k)) (whole_from_divides q (k * scale) (times_scale q.denom k h))))
 
 -- and nowhere else
-pub from_short_times : (q : Rational) (k : ℕ) → IsTrue (is_short (scaled k q)) → part q.denom ∣ k
+pub from_short_times : (q : Rational) (k : ℕ) → IsTrue (is_short (times_factor k q)) → part q.denom ∣ k
 from_short_times q k h =
     from_times_scale
     q.denom
@@ -84,4 +84,4 @@ from_short_times q k h =
     (divides_from_whole
     q
     (k * scale)
-    (subst (λ (r : Rational). IsTrue (is_whole r)) (times_both q k) (whole_from_divides (scaled k q) scale (divides_from_short (scaled k q) h))))
+    (subst (λ (r : Rational). IsTrue (is_whole r)) (times_both q k) (whole_from_divides (times_factor k q) scale (divides_from_short (times_factor k q) h))))

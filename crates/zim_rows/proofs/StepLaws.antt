@@ -3,15 +3,15 @@ use Rattle.std.proofs.Common.{nat_le, cond, true, false, ◌+◌, Ok, Err, ℕ, 
 use Rattle.std.proofs.lemmas.List.{map-append, take-append-drop}
 use Rattle.std.proofs.lemmas.List.Elements.{All-head, All-tail}
 use Rattle.zim_rational.specs.Rational.{Rational}
-use Rattle.zim_linear.specs.Forms.{Assignment}
+use Rattle.zim_linear.specs.Forms.{ColumnNumbers}
 use Rattle.zim_rows.specs.declared.rows.Column.{Column}
 use Rattle.zim_rows.specs.declared.rows.GivenRow.{GivenRow}
-use Rattle.zim_rows.specs.System.{LinearSystem, IsGivenRow, Extends, most}
+use Rattle.zim_rows.specs.System.{LinearSystem, IsGivenRow, Extends, most_in_system}
 use Rattle.zim_rows.specs.Points.{IsSystemPoint, KeepColumns, KeepsKind, Constraint, KeepConstraints, assigned, given_constraint, first_numbers}
 use Rattle.zim_fault.specs.declared.faults.Fault.{Fault}
 use Rattle.zim_fault.specs.declared.faults.Place.{Place}
 use Rattle.zim_fault.specs.declared.kinds.Kind.TheVariants.{TooManyRows, TooManyColumns}
-use Rattle.zim_rows.specs.Steps.{Step, with_step, placed, fault_of_kind}
+use Rattle.zim_rows.specs.Steps.{Step, with_step, step_placed, fault_here}
 use Rattle.zim_rows.specs.Extending.{IsValid, Narrows, NarrowsTo, Widens, Fits, FitsOnce}
 use Rattle.zim_rows.proofs.CutLaws.{sum_cut, point_cut}
 
@@ -33,11 +33,11 @@ columns_after [] ds vs h = h
 columns_after (c ∷ cs) ds [] h = absurd h
 columns_after (c ∷ cs) ds (v ∷ vs) h = columns_after cs ds vs h.1
 
-rows_joined : (x : Assignment) (rows more : List Constraint) → KeepConstraints x rows → KeepConstraints x more → KeepConstraints x (rows ++ more)
+rows_joined : (x : ColumnNumbers) (rows more : List Constraint) → KeepConstraints x rows → KeepConstraints x more → KeepConstraints x (rows ++ more)
 rows_joined x [] more h k = k
 rows_joined x (row ∷ rows) more h k = (h.0, rows_joined x rows more h.1 k)
 
-rows_after : (x : Assignment) (rows more : List Constraint) → KeepConstraints x (rows ++ more) → KeepConstraints x more
+rows_after : (x : ColumnNumbers) (rows more : List Constraint) → KeepConstraints x (rows ++ more) → KeepConstraints x more
 rows_after x [] more h = h
 rows_after x (row ∷ rows) more h = rows_after x rows more h.1
 
@@ -116,10 +116,10 @@ pub step_widens : (system : LinearSystem) (step : Step) → IsValid system → (
 step_widens system step is once = step_narrows system step (λ _. Unit {0}) is (λ p point _. once p point) (λ p vs point fits. tt)
 
 -- where a step is placed, the system is the one with the step
-pub placed_is : (place : Place) (system new : LinearSystem) (step : Step) → placed place system step ≡ Ok new → new ≡ with_step system step
-unfolding placed
+pub placed_is : (place : Place) (system new : LinearSystem) (step : Step) → step_placed place system step ≡ Ok new → new ≡ with_step system step
+unfolding step_placed
 placed_is place system new step h =
-    by (fault_of_kind TooManyRows place) (fault_of_kind TooManyColumns place) (nat_le (length system.columns + length step.columns) most) (nat_le (length system.rows + length step.rows) most) h
+    by (fault_here TooManyRows place) (fault_here TooManyColumns place) (nat_le (length system.columns + length step.columns) most_in_system) (nat_le (length system.rows + length step.rows) most_in_system) h
   where
     by : (f g : Fault) (b c : Bool) → cond b (cond c (Ok (with_step system step)) (Err f)) (Err g) ≡ Ok new → new ≡ with_step system step
     by f g true true e = cc

@@ -10,8 +10,8 @@ use Rattle.zim_rows.specs.declared.rows.Column.{Column}
 use Rattle.zim_rows.specs.declared.steps.NewRow.{NewRow}
 use Rattle.zim_rows.specs.declared.faults.EncodeFault.{EncodeFault}
 use Rattle.zim_rows.specs.declared.faults.EncodeFault.TheVariants as encode
-use Rattle.zim_rows.specs.System.{LinearSystem, with_column, with_row, most}
-use Rattle.zim_rows.specs.Steps.{with_step, placed, fault_of_kind, given_row, step_of, encode_cause, IsNewRow}
+use Rattle.zim_rows.specs.System.{LinearSystem, with_column, with_row, most_in_system}
+use Rattle.zim_rows.specs.Steps.{with_step, step_placed, fault_here, given_row, step_of, encode_cause, IsNewRow}
 
 -- ---- columns, one after another
 
@@ -33,7 +33,7 @@ pub last_column : (s now : LinearSystem) (columns : List Column) (i : ℕ) → n
 last_column s now columns i so_far all =
     so_far ∙ ap (λ (cs : List Column). with_step s (step_of cs [])) (take_all i columns all)
 
-pub column_room : (s now : LinearSystem) (columns : List Column) (i : ℕ) → now ≡ with_step s (step_of (take i columns) []) → i < length columns → length s.columns + length columns ≤ most → length now.columns < most
+pub column_room : (s now : LinearSystem) (columns : List Column) (i : ℕ) → now ≡ with_step s (step_of (take i columns) []) → i < length columns → length s.columns + length columns ≤ most_in_system → length now.columns < most_in_system
 column_room s now columns i so_far more room =
     let size : length now.columns ≡ length s.columns + length (take i columns) = ap (λ (t : LinearSystem). length t.columns) so_far ∙ length-append s.columns (take i columns) in
     let few : length (take i columns) ≤ i = simp length-take (omega arith) in
@@ -60,7 +60,7 @@ pub last_row : (s now : LinearSystem) (rows : List NewRow) (i : ℕ) → now ≡
 last_row s now rows i so_far all =
     so_far ∙ ap (λ (rs : List NewRow). with_step s (step_of [] rs)) (take_all i rows all)
 
-pub row_room : (s now : LinearSystem) (rows : List NewRow) (i : ℕ) → now ≡ with_step s (step_of [] (take i rows)) → i < length rows → length s.rows + length rows ≤ most → length now.rows < most
+pub row_room : (s now : LinearSystem) (rows : List NewRow) (i : ℕ) → now ≡ with_step s (step_of [] (take i rows)) → i < length rows → length s.rows + length rows ≤ most_in_system → length now.rows < most_in_system
 row_room s now rows i so_far more room =
     let size : length now.rows ≡ length s.rows + length (map given_row (take i rows)) = ap (λ (t : LinearSystem). length t.rows) so_far ∙ length-append s.rows (map given_row (take i rows)) in
     let few : length (map given_row (take i rows)) ≤ i = simp (length-map, length-take) (omega arith) in
@@ -77,27 +77,27 @@ row_over s now rows i row so_far more here each =
 not_le : (a b : ℕ) → b < a → nat_le a b ≡ false
 not_le a b h = false_from_ne_true (nat_le a b) (λ t. let le : a ≤ b = leb-true a b t in omega arith)
 
-pub columns_full : (place : Place) (s : LinearSystem) (columns : List Column) (rows : List NewRow) (m : ℕ) → m ≡ length s.columns → m ≤ most → most - m < length columns → placed place s (step_of columns rows) ≡ Err (fault_of_kind TooManyColumns place)
-unfolding placed
+pub columns_full : (place : Place) (s : LinearSystem) (columns : List Column) (rows : List NewRow) (m : ℕ) → m ≡ length s.columns → m ≤ most_in_system → most_in_system - m < length columns → step_placed place s (step_of columns rows) ≡ Err (fault_here TooManyColumns place)
+unfolding step_placed
 columns_full place s columns rows m e within full =
-    rw (not_le (length s.columns + length columns) most (omega arith)) refl
+    rw (not_le (length s.columns + length columns) most_in_system (omega arith)) refl
 
-pub rows_full : (place : Place) (s : LinearSystem) (columns : List Column) (rows : List NewRow) (m n : ℕ) → m ≡ length s.columns → m ≤ most → length columns ≤ most - m → n ≡ length s.rows → n ≤ most → most - n < length rows → placed place s (step_of columns rows) ≡ Err (fault_of_kind TooManyRows place)
-unfolding placed
+pub rows_full : (place : Place) (s : LinearSystem) (columns : List Column) (rows : List NewRow) (m n : ℕ) → m ≡ length s.columns → m ≤ most_in_system → length columns ≤ most_in_system - m → n ≡ length s.rows → n ≤ most_in_system → most_in_system - n < length rows → step_placed place s (step_of columns rows) ≡ Err (fault_here TooManyRows place)
+unfolding step_placed
 rows_full place s columns rows m n e within some f within_rows full =
     let size : length (map given_row rows) ≡ length rows = simp length-map refl in
-    rw (le-leb (length s.columns + length columns) most (omega arith), not_le (length s.rows + length (map given_row rows)) most (omega arith)) refl
+    rw (le-leb (length s.columns + length columns) most_in_system (omega arith), not_le (length s.rows + length (map given_row rows)) most_in_system (omega arith)) refl
 
-pub step_fits : (place : Place) (s : LinearSystem) (columns : List Column) (rows : List NewRow) (m n : ℕ) → m ≡ length s.columns → m ≤ most → length columns ≤ most - m → n ≡ length s.rows → n ≤ most → length rows ≤ most - n → placed place s (step_of columns rows) ≡ Ok (with_step s (step_of columns rows))
-unfolding placed
+pub step_fits : (place : Place) (s : LinearSystem) (columns : List Column) (rows : List NewRow) (m n : ℕ) → m ≡ length s.columns → m ≤ most_in_system → length columns ≤ most_in_system - m → n ≡ length s.rows → n ≤ most_in_system → length rows ≤ most_in_system - n → step_placed place s (step_of columns rows) ≡ Ok (with_step s (step_of columns rows))
+unfolding step_placed
 step_fits place s columns rows m n e within some f within_rows more =
     let size : length (map given_row rows) ≡ length rows = simp length-map refl in
-    rw (le-leb (length s.columns + length columns) most (omega arith), le-leb (length s.rows + length (map given_row rows)) most (omega arith)) refl
+    rw (le-leb (length s.columns + length columns) most_in_system (omega arith), le-leb (length s.rows + length (map given_row rows)) most_in_system (omega arith)) refl
 
 both_added : (s : LinearSystem) (columns : List Column) (rows : List NewRow) → with_step (with_step s (step_of columns [])) (step_of [] rows) ≡ with_step s (step_of columns rows)
 both_added s columns rows = rw (append-nil (s.columns ++ columns), append-nil s.rows) refl
 
-pub step_added : (place : Place) (s middle new : LinearSystem) (columns : List Column) (rows : List NewRow) (m n : ℕ) → m ≡ length s.columns → m ≤ most → length columns ≤ most - m → n ≡ length s.rows → n ≤ most → length rows ≤ most - n → middle ≡ with_step s (step_of columns []) → new ≡ with_step middle (step_of [] rows) → placed place s (step_of columns rows) ≡ Ok new
+pub step_added : (place : Place) (s middle new : LinearSystem) (columns : List Column) (rows : List NewRow) (m n : ℕ) → m ≡ length s.columns → m ≤ most_in_system → length columns ≤ most_in_system - m → n ≡ length s.rows → n ≤ most_in_system → length rows ≤ most_in_system - n → middle ≡ with_step s (step_of columns []) → new ≡ with_step middle (step_of [] rows) → step_placed place s (step_of columns rows) ≡ Ok new
 step_added place s middle new columns rows m n e within some f within_rows more first second =
     step_fits place s columns rows m n e within some f within_rows more
     ∙ ap Ok (sym (second ∙ ap (λ (t : LinearSystem). with_step t (step_of [] rows)) first ∙ both_added s columns rows))

@@ -5,7 +5,7 @@ use Rattle.zim_linear.specs.Forms.{Term, AreColumns}
 use Rattle.zim_rows.specs.declared.rows.Column.{Column}
 use Rattle.zim_rows.specs.declared.rows.GivenRow.{GivenRow}
 use Rattle.zim_rows.specs.declared.rows.Objective.{Objective}
-use Rattle.zim_rows.specs.System.{most, IsColumn, IsGivenRow, IsObjective, IsSystem}
+use Rattle.zim_rows.specs.System.{most_in_system, IsColumn, IsGivenRow, IsObjective, IsSystem}
 
 more_columns : (m n : ℕ) (ts : List Term) → m ≤ n → AreColumns m ts → AreColumns n ts
 more_columns m n [] le h = tt
@@ -18,11 +18,11 @@ more_for_objective m n (Some o) le is = record { terms = is.terms; columns = mor
 one_longer : {X : Type 0} (xs : List X) (x : X) → length xs + 1 ≡ length (xs ++ x ∷ [])
 one_longer xs x = simp length-append (omega arith)
 
-pub IsSystem-column : (columns : List Column) (rows : List GivenRow) (objective : Option Objective) (column : Column) → IsSystem columns rows objective → length columns < most → IsColumn column → IsSystem (columns ++ column ∷ []) rows objective
+pub IsSystem-column : (columns : List Column) (rows : List GivenRow) (objective : Option Objective) (column : Column) → IsSystem columns rows objective → length columns < most_in_system → IsColumn column → IsSystem (columns ++ column ∷ []) rows objective
 IsSystem-column columns rows objective column is room fits =
     let n : ℕ = length (columns ++ column ∷ []) in
     let le : length columns ≤ n = let e = one_longer columns column in omega arith in
-    let few : n ≤ most = let e = one_longer columns column in omega arith in
+    let few : n ≤ most_in_system = let e = one_longer columns column in omega arith in
     record {
       few_columns = few;
       few_rows = is.few_rows;
@@ -31,7 +31,7 @@ IsSystem-column columns rows objective column is room fits =
       objective_is = more_for_objective (length columns) n objective le is.objective_is;
     }
 
-pub IsSystem-row : (columns : List Column) (rows : List GivenRow) (objective : Option Objective) (row : GivenRow) → IsSystem columns rows objective → length rows < most → IsGivenRow (length columns) row → IsSystem columns (rows ++ row ∷ []) objective
+pub IsSystem-row : (columns : List Column) (rows : List GivenRow) (objective : Option Objective) (row : GivenRow) → IsSystem columns rows objective → length rows < most_in_system → IsGivenRow (length columns) row → IsSystem columns (rows ++ row ∷ []) objective
 IsSystem-row columns rows objective row is room fits = record {
   few_columns = is.few_columns;
   few_rows = let e = one_longer rows row in omega arith;

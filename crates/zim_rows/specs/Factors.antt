@@ -43,19 +43,19 @@ abbrev pub form_factor : LinearForm → ℕ
 form_factor form = factor_of (coefficients form.terms ++ form.constant ∷ [])
 
 -- A number times the factor.
-unfoldable pub scaled : ℕ → Rational → Rational
-scaled k q = times q (whole (pos k))
+unfoldable pub times_factor : ℕ → Rational → Rational
+times_factor k q = times q (whole (pos k))
 
 -- The numbers times the factor are within the limit.
 unfoldable pub all_within : ℕ → List Rational → Bool
 all_within k [] = true
-all_within k (q ∷ qs) = is_number (scaled k q) && all_within k qs
+all_within k (q ∷ qs) = is_number (times_factor k q) && all_within k qs
 
 -- The right sides times the factor are within the limit, and so is a range's high side less its low one.
 unfoldable pub kind_within : ℕ → RowKind → Bool
-kind_within k (One sense right) = is_number (scaled k right)
+kind_within k (One sense right) = is_number (times_factor k right)
 kind_within k (Range low high) =
-    is_number (scaled k low) && is_number (scaled k high) && is_sum_within (scaled k high) (negate (scaled k low))
+    is_number (times_factor k low) && is_number (times_factor k high) && is_sum_within (times_factor k high) (negate (times_factor k low))
 
 -- A row isn't past: neither its factor nor a scaled number nor the difference of a range's scaled sides is.
 unfoldable pub row_within : List Term → RowKind → Bool
@@ -65,12 +65,12 @@ row_within terms kind =
 -- An objective isn't past: neither its factor nor a scaled number is.
 unfoldable pub form_within : LinearForm → Bool
 form_within form =
-    nat_le (form_factor form) limit && (all_within (form_factor form) (coefficients form.terms) && is_number (scaled (form_factor form) form.constant))
+    nat_le (form_factor form) limit && (all_within (form_factor form) (coefficients form.terms) && is_number (times_factor (form_factor form) form.constant))
 
 -- Each of the numbers is short when it is multiplied by k.
 abbrev pub AreShortTimes : ℕ → List Rational → Type 0
 AreShortTimes k [] = Unit {0}
-AreShortTimes k (q ∷ qs) = IsTrue (is_short (scaled k q)) × AreShortTimes k qs
+AreShortTimes k (q ∷ qs) = IsTrue (is_short (times_factor k q)) × AreShortTimes k qs
 
 -- k is at least 1 and makes the numbers short, and each number that makes them short is a multiple of it.
 pub record IsLeastFactor (numbers : List Rational) (k : ℕ) : Type 0 where

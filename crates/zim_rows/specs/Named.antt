@@ -51,11 +51,11 @@ file_columns program =
     map named_column (enumerate_from 1 program.columns) ++ (if has_offset program then offset_column ∷ [] else [])
 
 -- A term over a column's name.
-abbrev pub named_term : Term → instance.Term
+abbrev pub named_term : Term → instance.NamedTerm
 named_term term = record { name = column_name term.0; coefficient = term.1 }
 
 -- The objective over names: its terms, and its constant times `one` where that stands.
-abbrev pub named_objective : LinearProgram → List instance.Term
+abbrev pub named_objective : LinearProgram → List instance.NamedTerm
 named_objective program =
     map named_term program.target.terms
     ++ (if has_offset program then record { name = offset_name; coefficient = program.target.constant } ∷ [] else [])

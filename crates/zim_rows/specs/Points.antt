@@ -2,7 +2,7 @@
 use Rattle.std.specs.Prelude.{◌≡◌, ◌-◌, IsTrue, List, [], ◌∷◌, length, map, take, Option, Some, None}
 use Rattle.std.specs.List.{slice_index_or}
 use Rattle.zim_rational.specs.Rational.{Rational, zero, plus, is_whole, IsAtMost}
-use Rattle.zim_linear.specs.Forms.{Term, Assignment, sum_at, number_at}
+use Rattle.zim_linear.specs.Forms.{Term, ColumnNumbers, sum_at, number_at}
 use Rattle.zim_linear.specs.Ends.{IsBetween}
 use Rattle.zim_rows.specs.declared.rows.Column.{Column}
 use Rattle.zim_rows.specs.declared.rows.GivenRow.{GivenRow}
@@ -16,7 +16,7 @@ use Rattle.zim_rows.specs.System.{LinearSystem}
 use Rattle.zim_rows.specs.Program.{LinearProgram}
 
 -- What each column is in a list of numbers, of which the first is that of column 1.
-abbrev pub assigned : List Rational → Assignment
+abbrev pub assigned : List Rational → ColumnNumbers
 assigned numbers j = slice_index_or numbers (j - 1) zero
 
 -- A number keeps a column: it lies between the sides, and is whole where the column is integer.
@@ -55,7 +55,7 @@ abbrev pub constraint : Row → Constraint
 constraint row = (row.terms, row.kind)
 
 -- The sum of the terms is what the row asks for, at an assignment of the columns.
-abbrev pub KeepConstraints : Assignment → List Constraint → Type 0
+abbrev pub KeepConstraints : ColumnNumbers → List Constraint → Type 0
 KeepConstraints x [] = Unit {0}
 KeepConstraints x (c ∷ cs) = KeepsKind c.1 (sum_at x c.0) × KeepConstraints x cs
 
@@ -74,7 +74,7 @@ abbrev pub first_numbers : LinearSystem → List Rational → List Rational
 first_numbers system numbers = take (length system.columns) numbers
 
 -- The number of an objective at an assignment; without one it is 0.
-abbrev pub objective_number : Assignment → Option Objective → Rational
+abbrev pub objective_number : ColumnNumbers → Option Objective → Rational
 objective_number x None = zero
 objective_number x (Some objective) = number_at x objective.form
 

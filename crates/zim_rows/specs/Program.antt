@@ -9,7 +9,7 @@ use Rattle.zim_rows.specs.declared.rows.Row.{Row}
 use Rattle.zim_rows.specs.declared.rows.Target.{Target}
 use Rattle.zim_rows.specs.declared.rows.RowKind.{RowKind}
 use Rattle.zim_rows.specs.declared.rows.RowKind.TheVariants.{One, Range}
-use Rattle.zim_rows.specs.System.{IsColumn, most}
+use Rattle.zim_rows.specs.System.{IsColumn, most_in_system}
 
 -- The columns in their order, the rows in theirs, and the objective, whose numbers are those that files take.
 pub record LinearProgram : Type 0 where
@@ -84,8 +84,8 @@ pub record IsTarget (n : ℕ) (target : Target) : Type 0 where
 
 -- What holds of every finished system.
 pub record IsProgram (columns : List Column) (rows : List Row) (target : Target) : Type 0 where
-  pub few_columns : length columns ≤ most
-  pub few_rows : length rows ≤ most
+  pub few_columns : length columns ≤ most_in_system
+  pub few_rows : length rows ≤ most_in_system
   pub each_column : All IsColumn columns
   pub sides_within : All HasSidesWithin columns
   pub each_row : All (IsRow (length columns)) rows

@@ -19,15 +19,15 @@ use Rattle.zim_rows.specs.declared.faults.FinishFault.{FinishFault}
 use Rattle.zim_rows.specs.declared.faults.FinishFault.TheVariants as finish
 use Rattle.zim_rows.specs.System.{LinearSystem}
 use Rattle.zim_rows.specs.Program.{LinearProgram, no_target}
-use Rattle.zim_rows.specs.Factors.{scaled, coefficients, all_within, row_factor, form_factor, row_within, form_within}
+use Rattle.zim_rows.specs.Factors.{times_factor, coefficients, all_within, row_factor, form_factor, row_within, form_within}
 
 -- A number times k, past where it passes the limit.
-unfoldable pub scaled_answer : ℕ → Rational → Result Rational fraction.Past
-scaled_answer k q = cond (is_number (scaled k q)) (Ok (scaled k q)) (Err (record {}))
+unfoldable pub factor_answer : ℕ → Rational → Result Rational fraction.Past
+factor_answer k q = cond (is_number (times_factor k q)) (Ok (times_factor k q)) (Err (record {}))
 
 -- A term with its coefficient times k.
 abbrev pub scaled_term : ℕ → Term → Term
-scaled_term k t = (t.0, scaled k t.1)
+scaled_term k t = (t.0, times_factor k t.1)
 
 -- Terms with their coefficients times k.
 abbrev pub scaled_terms : ℕ → List Term → List Term
@@ -35,8 +35,8 @@ scaled_terms k terms = map (scaled_term k) terms
 
 -- A row's right sides times k.
 abbrev pub scaled_kind : ℕ → RowKind → RowKind
-scaled_kind k (One sense right) = One sense (scaled k right)
-scaled_kind k (Range low high) = Range (scaled k low) (scaled k high)
+scaled_kind k (One sense right) = One sense (times_factor k right)
+scaled_kind k (Range low high) = Range (times_factor k low) (times_factor k high)
 
 -- A row with all its numbers times its factor.
 abbrev pub scaled_row : GivenRow → Row
@@ -55,14 +55,14 @@ scaled_target (Some objective) = record {
   place = Some objective.place;
   factor = pos (form_factor objective.form);
   terms = scaled_terms (form_factor objective.form) objective.form.terms;
-  constant = scaled (form_factor objective.form) objective.form.constant;
+  constant = times_factor (form_factor objective.form) objective.form.constant;
 }
 
 -- Terms times k, past exactly where a coefficient is. Want of memory is free.
-abbrev pub TermsAnswer : ℕ → List Term → Result (List Term) LinFault → Type 0
-TermsAnswer k terms (Ok made) = IsTrue (all_within k (coefficients terms)) × (made ≡ scaled_terms k terms)
-TermsAnswer k terms (Err Past) = ¬ IsTrue (all_within k (coefficients terms))
-TermsAnswer k terms (Err Memory) = Unit {0}
+abbrev pub ScaledTermsAnswer : ℕ → List Term → Result (List Term) LinFault → Type 0
+ScaledTermsAnswer k terms (Ok made) = IsTrue (all_within k (coefficients terms)) × (made ≡ scaled_terms k terms)
+ScaledTermsAnswer k terms (Err Past) = ¬ IsTrue (all_within k (coefficients terms))
+ScaledTermsAnswer k terms (Err Memory) = Unit {0}
 
 -- A row times its factor, past exactly where the row is. Want of memory is free.
 abbrev pub RowAnswer : GivenRow → Result Row LinFault → Type 0
@@ -85,27 +85,27 @@ scaled_program system = record {
 }
 
 -- The fault that a number passes 128 bits, at this place.
-abbrev pub past_at : Place → Fault
-past_at place = record { place = place; kind = kinds.Past }
+abbrev pub past_fault : Place → Fault
+past_fault place = record { place = place; kind = kinds.Past }
 
 -- The fault of the first row that is past, if there is one.
 unfoldable pub rows_fault : List GivenRow → Option Fault
 rows_fault [] = None
-rows_fault (row ∷ rows) = cond (row_within row.terms row.kind) (rows_fault rows) (Some (past_at row.from.place))
+rows_fault (row ∷ rows) = cond (row_within row.terms row.kind) (rows_fault rows) (Some (past_fault row.from.place))
 
 -- The fault of the objective, if it is past.
 unfoldable pub objective_fault : Option Objective → Option Fault
 objective_fault None = None
-objective_fault (Some objective) = cond (form_within objective.form) None (Some (past_at objective.place))
+objective_fault (Some objective) = cond (form_within objective.form) None (Some (past_fault objective.place))
 
 -- The one before the other.
-abbrev pub first_of : Option Fault → Option Fault → Option Fault
-first_of (Some fault) other = Some fault
-first_of None other = other
+abbrev pub earlier_fault : Option Fault → Option Fault → Option Fault
+earlier_fault (Some fault) other = Some fault
+earlier_fault None other = other
 
 -- The first fault: rows in their order, then the objective.
 abbrev pub first_fault : LinearSystem → Option Fault
-first_fault system = first_of (rows_fault system.rows) (objective_fault system.objective)
+first_fault system = earlier_fault (rows_fault system.rows) (objective_fault system.objective)
 
 -- Rows times their factors, or the fault of the first that is past. Want of memory is free.
 abbrev pub RowsAnswer : List GivenRow → Result (List Row) FinishFault → Type 0

@@ -15,11 +15,11 @@ use Rattle.zim_rows.specs.declared.faults.RowFault.{RowFault}
 use Rattle.zim_rows.specs.declared.faults.RowFault.TheVariants as refusal
 use Rattle.zim_rows.specs.declared.faults.EncodeFault.{EncodeFault}
 use Rattle.zim_rows.specs.declared.faults.EncodeFault.TheVariants as encode
-use Rattle.zim_rows.specs.System.{LinearSystem, column_of, row_of, most, IsKind}
+use Rattle.zim_rows.specs.System.{LinearSystem, column_of, row_of, most_in_system, IsKind}
 
 -- A fault of this kind at a place.
-abbrev pub fault_of_kind : Kind → Place → Fault
-fault_of_kind kind place = record { place = place; kind = kind }
+abbrev pub fault_here : Kind → Place → Fault
+fault_here kind place = record { place = place; kind = kind }
 
 -- The columns that a step makes, and its rows.
 pub record Step : Type 0 where
@@ -35,12 +35,12 @@ with_step system step = record {
 }
 
 -- The same where there is room. The limit of columns is met before that of rows, both at the place.
-unfoldable pub placed : Place → LinearSystem → Step → Result LinearSystem Fault
-placed place system step =
+unfoldable pub step_placed : Place → LinearSystem → Step → Result LinearSystem Fault
+step_placed place system step =
     cond
-    (nat_le (length system.columns + length step.columns) most)
-    (cond (nat_le (length system.rows + length step.rows) most) (Ok (with_step system step)) (Err (fault_of_kind TooManyRows place)))
-    (Err (fault_of_kind TooManyColumns place))
+    (nat_le (length system.columns + length step.columns) most_in_system)
+    (cond (nat_le (length system.rows + length step.rows) most_in_system) (Ok (with_step system step)) (Err (fault_here TooManyRows place)))
+    (Err (fault_here TooManyColumns place))
 
 -- The column of a helper that is called binary: a whole number from 0 to 1.
 abbrev pub binary : Column
@@ -75,8 +75,8 @@ Leaves answer new result = Gives (λ _. new) encode_cause answer result
 
 -- A refusal of a column or a row as a fault at a place.
 abbrev pub refused_at : Place → RowFault → EncodeFault
-refused_at place refusal.TooManyRows = encode.Fault (fault_of_kind TooManyRows place)
-refused_at place refusal.TooManyColumns = encode.Fault (fault_of_kind TooManyColumns place)
+refused_at place refusal.TooManyRows = encode.Fault (fault_here TooManyRows place)
+refused_at place refusal.TooManyColumns = encode.Fault (fault_here TooManyColumns place)
 refused_at place refusal.Memory = encode.Memory
 
 -- A new row as a system has it.

@@ -39,8 +39,8 @@ abbrev pub column_at : List Column → ℕ → Column
 column_at columns j = slice_index_or columns (j - 1) (column_of false unbounded)
 
 -- How many columns a system has at most, and how many rows.
-abbrev pub most : ℕ
-most = 1000000
+abbrev pub most_in_system : ℕ
+most_in_system = 1000000
 
 -- The system with one more column at the end.
 abbrev pub with_column : LinearSystem → Column → LinearSystem
@@ -99,14 +99,14 @@ pub record IsObjective (n : ℕ) (objective : Objective) : Type 0 where
 -- What holds of every system: its columns, its rows and its objective are such, and there are no more columns and rows
 -- than there may be.
 pub record IsSystem (columns : List Column) (rows : List GivenRow) (objective : Option Objective) : Type 0 where
-  pub few_columns : length columns ≤ most
-  pub few_rows : length rows ≤ most
+  pub few_columns : length columns ≤ most_in_system
+  pub few_rows : length rows ≤ most_in_system
   pub each_column : All IsColumn columns
   pub each_row : All (IsGivenRow (length columns)) rows
   pub objective_is : IfSome objective (IsObjective (length columns))
 
 -- How a system is kept: one mark and one pair of sides for each column.
-pub record IsKept (marks : List Bool) (sides : List Sides) (rows : List GivenRow) (objective : Option Objective) : Type 0 where
+pub record IsKeptSystem (marks : List Bool) (sides : List Sides) (rows : List GivenRow) (objective : Option Objective) : Type 0 where
   pub paired : length marks ≡ length sides
   pub system : IsSystem (columns_of marks sides) rows objective
 
@@ -115,17 +115,17 @@ pub record IsKept (marks : List Bool) (sides : List Sides) (rows : List GivenRow
 -- before.
 abbrev pub ColumnAnswer : LinearSystem → Column → LinearSystem → Result ℕ RowFault → Type 0
 ColumnAnswer old column new (Ok number) =
-    (length old.columns < most) × (number ≡ length old.columns + 1) × (new ≡ with_column old column)
-ColumnAnswer old column new (Err TooManyColumns) = (most ≤ length old.columns) × (new ≡ old)
+    (length old.columns < most_in_system) × (number ≡ length old.columns + 1) × (new ≡ with_column old column)
+ColumnAnswer old column new (Err TooManyColumns) = (most_in_system ≤ length old.columns) × (new ≡ old)
 ColumnAnswer old column new (Err TooManyRows) = ⊥
-ColumnAnswer old column new (Err Memory) = (length old.columns < most) × (new ≡ old)
+ColumnAnswer old column new (Err Memory) = (length old.columns < most_in_system) × (new ≡ old)
 
 -- What a call that adds a row answers, by the same rule for rows.
 abbrev pub RowAdded : LinearSystem → GivenRow → LinearSystem → Result Unit RowFault → Type 0
-RowAdded old row new (Ok _) = (length old.rows < most) × (new ≡ with_row old row)
-RowAdded old row new (Err TooManyRows) = (most ≤ length old.rows) × (new ≡ old)
+RowAdded old row new (Ok _) = (length old.rows < most_in_system) × (new ≡ with_row old row)
+RowAdded old row new (Err TooManyRows) = (most_in_system ≤ length old.rows) × (new ≡ old)
 RowAdded old row new (Err TooManyColumns) = ⊥
-RowAdded old row new (Err Memory) = (length old.rows < most) × (new ≡ old)
+RowAdded old row new (Err Memory) = (length old.rows < most_in_system) × (new ≡ old)
 
 -- One system extends another where the other's columns and rows are the first of its own, and the objective is the same.
 pub record Extends (later earlier : LinearSystem) : Type 0 where

@@ -4,7 +4,7 @@ ghost use Rattle.std.specs.Result.{OkIff};
 ghost use Rattle.zim_fraction.specs.Limit.{limit};
 ghost use Rattle.zim_rows.specs.Factors.{kind_within};
 ghost use Rattle.zim_rows.specs.Scaled as exact;
-ghost use Rattle.zim_rows.specs.Scaled.{TermsAnswer, RowAnswer, RowsAnswer, ObjectiveAnswer, TargetAnswer};
+ghost use Rattle.zim_rows.specs.Scaled.{ScaledTermsAnswer, RowAnswer, RowsAnswer, ObjectiveAnswer, TargetAnswer};
 
 use crate::factors::{form_factor, row_factor};
 use crate::faults::FinishFault;
@@ -18,7 +18,7 @@ use zim_linear::{LinFault, Term};
 // A number times k.
 fn scaled_number(q: Fraction, k: u128) -> Result<Fraction, Past>
     requires { k ≤ limit }
-    ensures { result ≡ exact.scaled_answer k q }
+    ensures { result ≡ exact.factor_answer k q }
 {
     numbers::mul(q, Fraction::whole(k as i128))
 }
@@ -26,7 +26,7 @@ fn scaled_number(q: Fraction, k: u128) -> Result<Fraction, Past>
 // Terms with their coefficients times k.
 fn scaled_terms(alloc: Global, mut rest: &[Term], k: u128) -> Result<Sequence<Term>, LinFault>
     requires { k ≤ limit }
-    ensures { TermsAnswer k rest.now result }
+    ensures { ScaledTermsAnswer k rest.now result }
 {
     let mut made = Vec::new(alloc);
     while let Some((t, more)) = rest.split_first() {
@@ -98,7 +98,7 @@ fn scaled_row(alloc: Global, row: &GivenRow) -> Result<Row, LinFault>
 
 // The fault that a number of a row or of the objective passes 128 bits.
 fn past_at(place: Place) -> FinishFault
-    ensures { result ≡ FinishFault.Fault (exact.past_at place) }
+    ensures { result ≡ FinishFault.Fault (exact.past_fault place) }
 {
     FinishFault::Fault(Fault {
         place,

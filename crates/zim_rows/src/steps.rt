@@ -1,6 +1,6 @@
 ghost use Rattle.std.specs.Prelude.{◌≡◌, ◌+◌, ◌<◌, ◌≤◌, [], length, All, OnOk};
-ghost use Rattle.zim_rows.specs.System.{IsColumn, with_column, with_row, most};
-ghost use Rattle.zim_rows.specs.Steps.{with_step, placed, step_of, given_row, fault_of_kind, refused_at, IsNewRow, Leaves};
+ghost use Rattle.zim_rows.specs.System.{IsColumn, with_column, with_row, most_in_system};
+ghost use Rattle.zim_rows.specs.Steps.{with_step, step_placed, step_of, given_row, fault_here, refused_at, IsNewRow, Leaves};
 
 use crate::faults::{EncodeFault, RowFault};
 use crate::rows::{Column, RowFrom, RowKind};
@@ -31,7 +31,7 @@ impl RowFault {
 
 // The refusal of a step.
 fn refused(kind: Kind, place: Place) -> EncodeFault
-    ensures { result ≡ EncodeFault.Fault (fault_of_kind kind place) }
+    ensures { result ≡ EncodeFault.Fault (fault_here kind place) }
 {
     EncodeFault::Fault(Fault { place, kind })
 }
@@ -50,7 +50,7 @@ impl System {
     ) -> Result<(), EncodeFault>
         requires columns { All IsColumn columns.now }
         requires rows { All (IsNewRow (length self.old.columns + length columns.now)) rows.now }
-        ensures { Leaves (placed place self.old (step_of columns.now rows.now)) self.new result }
+        ensures { Leaves (step_placed place self.old (step_of columns.now rows.now)) self.new result }
     {
         if MOST - self.column_count() < columns.len() {
             return Err(refused(Kind::TooManyColumns, place));
@@ -67,7 +67,7 @@ impl System {
 // Adds columns, for which there is room, one after another.
 fn add_columns(system: &mut System, columns: &[Column]) -> Result<(), Memory>
     requires columns { All IsColumn columns.now }
-    requires room { length system.old.columns + length columns.now ≤ most }
+    requires room { length system.old.columns + length columns.now ≤ most_in_system }
     ensures { OnOk result (system.new ≡ with_step system.old (step_of columns.now [])) }
 {
     for column in columns {
@@ -79,7 +79,7 @@ fn add_columns(system: &mut System, columns: &[Column]) -> Result<(), Memory>
 // Adds a column, for which there is room.
 fn add_column(system: &mut System, column: &Column) -> Result<(), Memory>
     requires column { IsColumn column.now }
-    requires room { length system.old.columns < most }
+    requires room { length system.old.columns < most_in_system }
     ensures { OnOk result (system.new ≡ with_column system.old column.now) }
 {
     let sides = Sides {
@@ -95,7 +95,7 @@ fn add_column(system: &mut System, column: &Column) -> Result<(), Memory>
 // Adds rows, for which there is room, one after another.
 fn add_rows(system: &mut System, rows: &[NewRow]) -> Result<(), Memory>
     requires rows { All (IsNewRow (length system.old.columns)) rows.now }
-    requires room { length system.old.rows + length rows.now ≤ most }
+    requires room { length system.old.rows + length rows.now ≤ most_in_system }
     ensures { OnOk result (system.new ≡ with_step system.old (step_of [] rows.now)) }
 {
     for row in rows {
@@ -107,7 +107,7 @@ fn add_rows(system: &mut System, rows: &[NewRow]) -> Result<(), Memory>
 // Adds a row, for which there is room.
 fn add_row(system: &mut System, row: &NewRow) -> Result<(), Memory>
     requires row { IsNewRow (length system.old.columns) row.now }
-    requires room { length system.old.rows < most }
+    requires room { length system.old.rows < most_in_system }
     ensures { OnOk result (system.new ≡ with_row system.old (given_row row.now)) }
 {
     match system.push_row(row.from, row.form.terms(), row.kind) {

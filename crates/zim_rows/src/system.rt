@@ -37,7 +37,7 @@ pub struct System {
 }
 
 impl Model for System {
-    ghost use Rattle.zim_rows.specs.System.{LinearSystem, columns_of, IsKept};
+    ghost use Rattle.zim_rows.specs.System.{LinearSystem, columns_of, IsKeptSystem};
 
     ghost Value = { LinearSystem };
 
@@ -47,7 +47,7 @@ impl Model for System {
       objective = it.objective;
     } };
 
-    ghost invariant = { λ it. IsKept it.marks.items it.sides it.rows it.objective };
+    ghost invariant = { λ it. IsKeptSystem it.marks.items it.sides it.rows it.objective };
 }
 
 impl System {

@@ -4,12 +4,12 @@ use Rattle.std.specs.Prelude.{flat_map, if◌then◌else◌}
 use Rattle.zim_gate.specs.Pen.{Writes}
 use Rattle.zim_gate.proofs.PenLaws.{Writes-nothing}
 use Rattle.zim_rows.specs.Finished.{program_of}
-use Rattle.zim_mps.specs.Text.{offset_column, column_text}
+use Rattle.zim_mps.specs.Text.{mps_offset_column, column_text}
 use Rattle.zim_mps.proofs.columns.put_offset.Goals as goal
 
 pub returns-else-has_offset : goal.returns-else-has_offset
 returns-else-has_offset g c =
     subst
-    (λ (b : Bool). Writes g.F.Folder.state c.args.pen.now c.args.pen.now (flat_map column_text (if b then offset_column (program_of c.args.system.now) ∷ [] else [])))
+    (λ (b : Bool). Writes g.F.Folder.state c.args.pen.now c.args.pen.now (flat_map column_text (if b then mps_offset_column (program_of c.args.system.now) ∷ [] else [])))
     (sym c.if-has_offset.false ∙ c.has_offset.ensures)
     (Writes-nothing c.args.pen.now)
