@@ -9,7 +9,7 @@ use Rattle.zim_sets.proofs.SetLemmas.{one_shape_from}
 use Rattle.zim_sets.specs.Choices.{choices, choices_below, ways}
 use Rattle.zim_sets.specs.Families.{family_of, subsets_of, powerset_of}
 use Rattle.zim_sets.specs.Sets.{same_shape, same_tuple, most, IsSet}
-use Rattle.zim_sets.specs.declared.faults.SetFault.TheVariants.{SetSize}
+use Rattle.zim_fault.specs.declared.kinds.Kind.TheVariants.{SetSize}
 use Rattle.zim_tuples.specs.declared.elements.Elem.{Elem}
 
 all_from_tests : (test : List Elem → Bool) (xs : List (List Elem)) → list_all test xs ≡ true → AllByRecursion (λ x. test x ≡ true) xs
@@ -48,10 +48,12 @@ unfolding family_of
 family_many sets many = rw (lt-leb (length sets) most many) refl
 
 pub subsets_few : (a : List (List Elem)) (n : ℕ) → nat_le (ways (length a) n) most ≡ true → subsets_of a n ≡ Ok (choices n a)
+unfolding subsets_of
 subsets_few a n few =
     family_few (choices n a) (rw (length-choices n a) (leb-true (ways (length a) n) most few))
 
 pub subsets_many : (a : List (List Elem)) (n : ℕ) → nat_le (ways (length a) n) most ≡ false → subsets_of a n ≡ Err SetSize
+unfolding subsets_of
 subsets_many a n many =
     family_many (choices n a) (rw (length-choices n a) (leb-false (ways (length a) n) most many))
 
@@ -59,11 +61,13 @@ size : (a : List (List Elem)) → length (choices_below (length a + 1) a) ≡ 2 
 size a = length-choices_below (length a + 1) a (omega arith)
 
 pub powerset_few : (a : List (List Elem)) → length a ≤ 20 → powerset_of a ≡ Ok (choices_below (length a + 1) a)
+unfolding powerset_of
 powerset_few a few =
     let most_of_all : 2 ^ length a ≤ 2 ^ 20 = pow-le-pow_right {n = 2} (omega arith) few in
     family_few (choices_below (length a + 1) a) (rw (size a) most_of_all)
 
 pub powerset_many : (a : List (List Elem)) → 20 < length a → powerset_of a ≡ Err SetSize
+unfolding powerset_of
 powerset_many a many =
     let at_least : 2 ^ 21 ≤ 2 ^ length a = pow-le-pow_right {n = 2} (omega arith) many in
     family_many (choices_below (length a + 1) a) (rw (size a) (omega arith))

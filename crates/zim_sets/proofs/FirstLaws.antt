@@ -1,6 +1,6 @@
 -- Inserting tuples of one shape one after another keeps the first of equal ones; and so a projection is a set.
-use Rattle.std.proofs.Common.{ℕ, ◌≡◌, ◌≤◌, ◌+◌, Bool, true, false, ◌&&◌, ◌||◌, not, cond, List, [], ◌∷◌, ◌++◌, length, map, zero, suc, Result, Ok, refl, sym, ap, ◌∙◌, arith, append-nil, length-append}
-use Rattle.std.proofs.lemmas.Bool.{and_parts, and_from}
+use Rattle.std.proofs.Common.{ℕ, ◌≡◌, ◌≤◌, ◌+◌, Bool, true, false, ◌&&◌, ◌||◌, not, cond, List, [], ◌∷◌, ◌++◌, length, map, zero, suc, Result, Ok, Err, ◌<◌, ◌⊎◌, inl, inr, refl, sym, ap, ◌∙◌, arith, append-nil, length-append}
+use Rattle.std.proofs.lemmas.Bool.{and_parts, and_from, cases_lt}
 use Rattle.std.proofs.lemmas.List.{length-map}
 use Rattle.std.specs.List.{filter, list_all, slice_get}
 use Rattle.std.specs.Option.{option_to_list}
@@ -9,13 +9,15 @@ use Rattle.zim_answer.proofs.GoesLemmas.{goes-nil, goes-cons}
 use Rattle.zim_answer.specs.Answer.{◌>>=◌, goes}
 use Rattle.zim_sets.proofs.JoinLaws.{append_one}
 use Rattle.zim_sets.proofs.ProductLaws.{shapes_joined, shape_of}
-use Rattle.zim_sets.proofs.SetLemmas.{one_shape_from, all_of_append, fits_here, inserted_there, inserted_at_end}
+use Rattle.zim_sets.proofs.SetLemmas.{one_shape_from, all_of_append, fits_here, inserted_new, inserted_there, inserted_at_end, sized_few, sized_many}
 use Rattle.zim_sets.proofs.ShapeLemmas.{tuples_equivalent}
 use Rattle.zim_sets.specs.Choices.{item_at, items_at}
-use Rattle.zim_sets.specs.Insertion.{inserted}
+use Rattle.zim_sets.specs.Insertion.{sized, inserted}
+use Rattle.zim_sets.specs.Listing.{set_listed}
 use Rattle.zim_sets.specs.Products.{firsts, projected}
-use Rattle.zim_sets.specs.Sets.{same_kind, same_shape, same_tuple, fits, has, most, IsSet}
-use Rattle.zim_sets.specs.declared.faults.SetFault.{SetFault}
+use Rattle.zim_sets.specs.Sets.{same_kind, same_shape, same_tuple, has_one_shape, fits, has, most, IsSet}
+use Rattle.zim_fault.specs.declared.kinds.Kind.{Kind}
+use Rattle.zim_fault.specs.declared.kinds.Kind.TheVariants.{WrongKind, SetSize}
 use Rattle.zim_tuples.specs.declared.elements.Elem.{Elem}
 
 -- one filter after another keeps what passes both
@@ -100,7 +102,7 @@ fits_shape shape xs y all here =
 
 goes_after : (xs next ys : List (List Elem)) (y : List Elem) → inserted xs y ≡ Ok next → goes inserted xs (y ∷ ys) ≡ goes inserted next ys
 goes_after xs next ys y step =
-    goes-cons inserted xs y ys ∙ ap (λ (a : Result (List (List Elem)) SetFault). a >>= λ between. goes inserted between ys) step
+    goes-cons inserted xs y ys ∙ ap (λ (a : Result (List (List Elem)) Kind). a >>= λ between. goes inserted between ys) step
 
 -- inserting tuples of one shape adds the first of equal ones among those that aren't there
 pub joined_firsts : (shape : List Elem) (xs ys : List (List Elem)) → list_all (same_shape shape) xs ≡ true → list_all (same_shape shape) ys ≡ true → length xs + length ys ≤ most → goes inserted xs ys ≡ Ok (xs ++ firsts (filter (λ z. not (has xs z)) ys))
@@ -119,7 +121,7 @@ joined_firsts shape xs (y ∷ ys) front back few =
           goes_after xs more ys y step ∙ rest ∙ ap Ok (append_one xs y (firsts (filter (λ z. not (has more z)) ys)) ∙ ap (λ (tail : List (List Elem)). xs ++ y ∷ tail) (firsts_after xs ys y))
     ]) refl
 
-pub goes_map : (step : List (List Elem) → List Elem → Result (List (List Elem)) SetFault) (f : List Elem → List Elem) (start xs : List (List Elem)) → goes (λ state x. step state (f x)) start xs ≡ goes step start (map f xs)
+pub goes_map : (step : List (List Elem) → List Elem → Result (List (List Elem)) Kind) (f : List Elem → List Elem) (start xs : List (List Elem)) → goes (λ state x. step state (f x)) start xs ≡ goes step start (map f xs)
 goes_map step f start [] = goes-nil (λ state x. step state (f x)) start ∙ sym (goes-nil step start)
 goes_map step f start (x ∷ xs) =
     goes-cons (λ state x. step state (f x)) start x xs ∙ bind_same (step start (f x)) _ _ (λ next. goes_map step f next xs) ∙ sym (goes-cons step start (f x) (map f xs))
@@ -152,6 +154,7 @@ all_new [] = refl
 all_new (y ∷ ys) = ap (λ (rest : List (List Elem)). y ∷ rest) (all_new ys)
 
 pub proj_made : (a : List (List Elem)) (positions : List ℕ) → IsSet a → goes (λ made tuple. inserted made (items_at tuple positions)) [] a ≡ Ok (projected a positions)
+unfolding projected
 proj_made a positions set =
     let s = shape_of a set.one_shape in
     let picked = map (λ tuple. items_at tuple positions) a in
@@ -159,3 +162,41 @@ proj_made a positions set =
     goes_map inserted (λ tuple. items_at tuple positions) [] a
     ∙ joined_firsts (items_at s.0 positions) [] picked refl (all_items_shape s.0 positions a s.1) (omega (arith, length-map a (λ tuple. items_at tuple positions)))
     ∙ ap (λ ys. Ok (firsts ys)) (all_new picked)
+
+-- inserting tuples of one shape gives the set with the first of equal ones among those that aren't there, if it isn't too large
+joined_sized : (shape : List Elem) (xs ys : List (List Elem)) → list_all (same_shape shape) xs ≡ true → list_all (same_shape shape) ys ≡ true → length xs ≤ most → goes inserted xs ys ≡ sized (xs ++ firsts (filter (λ z. not (has xs z)) ys))
+unfolding firsts
+joined_sized shape xs [] front back few = goes-nil inserted xs ∙ sym (sized_few xs few) ∙ ap sized (sym (append-nil xs))
+joined_sized shape xs (y ∷ ys) front back few =
+    let parts = and_parts (same_shape shape y) (list_all (same_shape shape) ys) back in
+    let fitting = fits_shape shape xs y front parts.0 in
+    let others = filter (λ z. not (has xs z)) ys in
+    (elim (has xs y) as (λ found. has xs y ≡ found → goes inserted xs (y ∷ ys) ≡ sized (xs ++ firsts (cond (not found) (y ∷ others) others))) [
+      | true ↦ λ e. goes_after xs xs ys y (inserted_there xs y fitting e) ∙ joined_sized shape xs ys front parts.1 few
+      | false ↦ λ e.
+          let more = xs ++ y ∷ [] in
+          elim (cases_lt most (length more)) [
+            | inr within ↦
+                let step = inserted_new xs y fitting e ∙ sized_few more within in
+                let all : list_all (same_shape shape) more ≡ true = all_of_append (same_shape shape) xs (y ∷ []) front (and_from (same_shape shape y) true parts.0 refl) in
+                let rest = joined_sized shape more ys all parts.1 within in
+                goes_after xs more ys y step ∙ rest ∙ ap sized (append_one xs y (firsts (filter (λ z. not (has more z)) ys)) ∙ ap (λ (tail : List (List Elem)). xs ++ y ∷ tail) (firsts_after xs ys y))
+            | inl past ↦
+                let before : most < length more = past in
+                let left = filter (λ z. not (same_tuple y z)) (firsts others) in
+                goes-cons inserted xs y ys
+                ∙ ap (λ (a : Result (List (List Elem)) Kind). a >>= λ next. goes inserted next ys) (inserted_new xs y fitting e ∙ sized_many more past)
+                ∙ sym (sized_many (xs ++ y ∷ left) (omega (arith, length-append xs (y ∷ []), length-append xs (y ∷ left))))
+          ]
+    ]) refl
+
+-- inserting the tuples of a list of one shape gives the set that it lists
+pub listed_made : (tuples : List (List Elem)) → has_one_shape tuples ≡ true → goes inserted [] tuples ≡ set_listed tuples
+unfolding set_listed
+listed_made tuples one =
+    let s = shape_of tuples one in
+    joined_sized s.0 [] tuples refl s.1 (omega arith) ∙ ap (λ ys. sized (firsts ys)) (all_new tuples) ∙ sym (ap (λ b. cond b (sized (firsts tuples)) (Err WrongKind)) one)
+
+pub listed_unlike : (tuples : List (List Elem)) → has_one_shape tuples ≡ false → set_listed tuples ≡ Err WrongKind
+unfolding set_listed
+listed_unlike tuples unlike = rw unlike refl

@@ -14,8 +14,8 @@ use Rattle.zim_sets.proofs.ShapeLemmas.{tuples_equivalent}
 use Rattle.zim_sets.specs.Insertion.{sized, inserted, inserted_where}
 use Rattle.zim_sets.specs.Operators.{those_in, those_not_in, of_alike, union_of, without_of, inter_of, symdiff_of}
 use Rattle.zim_sets.specs.Sets.{same_shape, same_tuple, has_one_shape, are_alike, has, most, IsSet}
-use Rattle.zim_sets.specs.declared.faults.SetFault.{SetFault}
-use Rattle.zim_sets.specs.declared.faults.SetFault.TheVariants.{WrongKind, SetSize}
+use Rattle.zim_fault.specs.declared.kinds.Kind.{Kind}
+use Rattle.zim_fault.specs.declared.kinds.Kind.TheVariants.{WrongKind, SetSize}
 use Rattle.zim_tuples.specs.declared.elements.Elem.{Elem}
 
 pub append_one : (xs : List (List Elem)) (y : List Elem) (ys : List (List Elem)) → (xs ++ y ∷ []) ++ ys ≡ xs ++ y ∷ ys
@@ -25,14 +25,14 @@ pub joined : (xs ys : List (List Elem)) → has_one_shape (xs ++ ys) ≡ true �
 joined xs [] one distinct few = goes-nil inserted xs ∙ sym (sized_few xs few) ∙ ap sized (sym (append-nil xs))
 joined xs (y ∷ ys) one distinct few =
     let step : inserted xs y ≡ sized (xs ++ y ∷ []) = inserted_new xs y (fits_here xs y ys one) (new_here tuples_equivalent xs y ys distinct) in
-    let go : goes inserted xs (y ∷ ys) ≡ (sized (xs ++ y ∷ []) >>= λ next. goes inserted next ys) = goes-cons inserted xs y ys ∙ ap (λ (a : Result (List (List Elem)) SetFault). a >>= λ next. goes inserted next ys) step in
+    let go : goes inserted xs (y ∷ ys) ≡ (sized (xs ++ y ∷ []) >>= λ next. goes inserted next ys) = goes-cons inserted xs y ys ∙ ap (λ (a : Result (List (List Elem)) Kind). a >>= λ next. goes inserted next ys) step in
     elim (cases_lt most (length (xs ++ y ∷ []))) [
       | inr within ↦
-          go ∙ ap (λ (a : Result (List (List Elem)) SetFault). a >>= λ next. goes inserted next ys) (sized_few (xs ++ y ∷ []) within)
+          go ∙ ap (λ (a : Result (List (List Elem)) Kind). a >>= λ next. goes inserted next ys) (sized_few (xs ++ y ∷ []) within)
           ∙ joined (xs ++ y ∷ []) ys (ap has_one_shape (append_one xs y ys) ∙ one) (subst (λ (zs : List (List Elem)). IsDistinct same_tuple zs) (sym (append_one xs y ys)) distinct) within
           ∙ ap sized (append_one xs y ys)
       | inl past ↦
-          go ∙ ap (λ (a : Result (List (List Elem)) SetFault). a >>= λ next. goes inserted next ys) (sized_many (xs ++ y ∷ []) past)
+          go ∙ ap (λ (a : Result (List (List Elem)) Kind). a >>= λ next. goes inserted next ys) (sized_many (xs ++ y ∷ []) past)
           ∙ sym (sized_many (xs ++ y ∷ ys) (let before : most < length (xs ++ y ∷ []) = past in omega (arith, length-append xs (y ∷ []), length-append xs (y ∷ ys))))
     ]
 
@@ -83,12 +83,15 @@ picked a test set =
     joined [] (filter test a) (one_shape_from shape.0 (filter test a) (all_of_filter (same_shape shape.0) test a shape.2)) (distinct_filter same_tuple test a set.distinct) (omega arith)
 
 pub without_made : (a b : List (List Elem)) → IsSet a → are_alike a b ≡ true → goes (inserted_where (λ t. beq (has b t) false)) [] a ≡ without_of a b
+unfolding without_of
 without_made a b set alike = goes_without b [] a ∙ picked a (λ t. not (has b t)) set ∙ sym (alike_made a b (those_not_in a b) alike)
 
 pub inter_made : (a b : List (List Elem)) → IsSet a → are_alike a b ≡ true → goes (inserted_where (λ t. beq (has b t) true)) [] a ≡ inter_of a b
+unfolding inter_of
 inter_made a b set alike = goes_within b [] a ∙ picked a (λ t. has b t) set ∙ sym (alike_made a b (those_in a b) alike)
 
 pub union_made : (a b : List (List Elem)) → IsSet a → IsSet b → are_alike a b ≡ true → goes (inserted_where (λ t. beq (has a t) false)) a b ≡ union_of a b
+unfolding union_of
 union_made a b first second alike =
     let shape = common_shape a b first.one_shape second.one_shape alike in
     let new = those_not_in b a in
@@ -105,7 +108,7 @@ pub where_unwanted : (test : List Elem → Bool) (xs : List (List Elem)) (y : Li
 unfolding inserted_where
 where_unwanted test xs y unwanted = rw unwanted refl
 
-pub sized_longer : (xs ys : List (List Elem)) (fault : SetFault) → sized xs ≡ Err fault → sized (xs ++ ys) ≡ Err fault
+pub sized_longer : (xs ys : List (List Elem)) (fault : Kind) → sized xs ≡ Err fault → sized (xs ++ ys) ≡ Err fault
 sized_longer xs ys fault failed =
     elim (cases_lt most (length xs)) [
       | inl past ↦ sized_many (xs ++ ys) (let before : most < length xs = past in omega (arith, length-append xs ys)) ∙ sym (sized_many xs past) ∙ failed
@@ -121,6 +124,7 @@ sized_gave xs ys gave =
 
 -- both halves of a symmetric difference
 pub symdiff_rest : (a b made : List (List Elem)) → IsSet a → IsSet b → are_alike a b ≡ true → goes (inserted_where (λ t. beq (has b t) false)) [] a ≡ Ok made → goes (inserted_where (λ t. beq (has a t) false)) made b ≡ symdiff_of a b
+unfolding symdiff_of
 symdiff_rest a b made first second alike gave =
     let front = those_not_in a b in
     let back = those_not_in b a in
@@ -132,12 +136,29 @@ symdiff_rest a b made first second alike gave =
     let distinct = distinct_append tuples_equivalent front back (distinct_filter same_tuple _ a first.distinct) (distinct_filter same_tuple _ b second.distinct) apart in
     goes_without a made b ∙ ap (λ (start : List (List Elem)). goes inserted start back) (sym half.0) ∙ joined front back one distinct half.1 ∙ sym (alike_made a b (front ++ back) alike)
 
-pub symdiff_stopped : (a b : List (List Elem)) (fault : SetFault) → IsSet a → are_alike a b ≡ true → goes (inserted_where (λ t. beq (has b t) false)) [] a ≡ Err fault → symdiff_of a b ≡ Err fault
+pub symdiff_stopped : (a b : List (List Elem)) (fault : Kind) → IsSet a → are_alike a b ≡ true → goes (inserted_where (λ t. beq (has b t) false)) [] a ≡ Err fault → symdiff_of a b ≡ Err fault
+unfolding symdiff_of
 symdiff_stopped a b fault first alike failed =
     alike_made a b (those_not_in a b ++ those_not_in b a) alike
     ∙ sized_longer (those_not_in a b) (those_not_in b a) fault (sym (picked a (λ t. not (has b t)) first) ∙ sym (goes_without b [] a) ∙ failed)
 
-pub symdiff_stops : (a b : List (List Elem)) (cause : Cause SetFault) → IsSet a → are_alike a b ≡ true → Stops (goes (inserted_where (λ t. beq (has b t) false)) [] a) cause → Stops (symdiff_of a b) cause
+pub symdiff_stops : (a b : List (List Elem)) (cause : Cause Kind) → IsSet a → are_alike a b ≡ true → Stops (goes (inserted_where (λ t. beq (has b t) false)) [] a) cause → Stops (symdiff_of a b) cause
 symdiff_stops a b NoMemory first alike stops = tt
 symdiff_stops a b (Met fault) first alike stops = symdiff_stopped a b fault first alike stops
 symdiff_stops a b Never first alike stops = stops
+
+pub unlike_union : (a b : List (List Elem)) → are_alike a b ≡ false → union_of a b ≡ Err WrongKind
+unfolding union_of
+unlike_union a b unlike = unlike_made a b _ unlike
+
+pub unlike_without : (a b : List (List Elem)) → are_alike a b ≡ false → without_of a b ≡ Err WrongKind
+unfolding without_of
+unlike_without a b unlike = unlike_made a b _ unlike
+
+pub unlike_inter : (a b : List (List Elem)) → are_alike a b ≡ false → inter_of a b ≡ Err WrongKind
+unfolding inter_of
+unlike_inter a b unlike = unlike_made a b _ unlike
+
+pub unlike_symdiff : (a b : List (List Elem)) → are_alike a b ≡ false → symdiff_of a b ≡ Err WrongKind
+unfolding symdiff_of
+unlike_symdiff a b unlike = unlike_made a b _ unlike

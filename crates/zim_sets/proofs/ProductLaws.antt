@@ -10,8 +10,8 @@ use Rattle.zim_sets.proofs.SetLemmas.{common_shape, one_shape_from, shape_moves,
 use Rattle.zim_sets.proofs.ShapeLemmas.{tuples_equivalent}
 use Rattle.zim_sets.specs.Products.{crossed, cross_of}
 use Rattle.zim_sets.specs.Sets.{same_kind, same_shape, same_tuple, has_one_shape, are_alike, most, IsSet}
-use Rattle.zim_sets.specs.declared.faults.SetFault.TheVariants.{SetSize}
-use Rattle.zim_tuples.specs.Elements.{same}
+use Rattle.zim_fault.specs.declared.kinds.Kind.TheVariants.{SetSize}
+use Rattle.zim_tuples.specs.Elements.{same_element}
 use Rattle.zim_tuples.specs.declared.elements.Elem.{Elem}
 
 and_assoc : (p q r : Bool) → (p && (q && r)) ≡ ((p && q) && r)
@@ -51,7 +51,7 @@ crossed_shape s t (x ∷ a) b front back =
 row_apart : (x y : List Elem) (b : List (List Elem)) → AllByRecursion (λ z. same_tuple y z ≡ false) b → AllByRecursion (λ z. same_tuple (x ++ y) z ≡ false) (map (λ other. x ++ other) b)
 row_apart x y [] apart = tt
 row_apart x y (z ∷ b) apart = (
-  pointwise-append same x x y z refl ∙ (λ i. tuples_equivalent.refl x i && apart.0 i),
+  pointwise-append same_element x x y z refl ∙ (λ i. tuples_equivalent.refl x i && apart.0 i),
   row_apart x y b apart.1,
 )
 
@@ -63,7 +63,7 @@ row_distinct x (y ∷ b) distinct = (row_apart x y b distinct.0, row_distinct x 
 none_joined : (x z t : List Elem) (b : List (List Elem)) → length z ≡ length x → same_tuple z x ≡ false → list_any (same_tuple (z ++ t)) (map (λ other. x ++ other) b) ≡ false
 none_joined x z t [] long other = refl
 none_joined x z t (y ∷ b) long other =
-    or_false_from (same_tuple (z ++ t) (x ++ y)) (list_any (same_tuple (z ++ t)) (map (λ other. x ++ other) b)) (pointwise-append same z x t y long ∙ (λ i. other i && same_tuple t y)) (none_joined x z t b long other)
+    or_false_from (same_tuple (z ++ t) (x ++ y)) (list_any (same_tuple (z ++ t)) (map (λ other. x ++ other) b)) (pointwise-append same_element z x t y long ∙ (λ i. other i && same_tuple t y)) (none_joined x z t b long other)
 
 row_none : (x z : List Elem) (b c : List (List Elem)) → length z ≡ length x → same_tuple z x ≡ false → AllByRecursion (λ w. list_any (same_tuple w) (map (λ other. x ++ other) b) ≡ false) (map (λ other. z ++ other) c)
 row_none x z b [] long other = tt
@@ -101,9 +101,11 @@ crossed_set a b first second few =
     }
 
 pub cross_few : (a b : List (List Elem)) → length a * length b ≤ most → cross_of a b ≡ Ok (crossed a b)
+unfolding cross_of
 cross_few a b few = sized_few (crossed a b) (rw (length-crossed a b) few)
 
 pub cross_many : (a b : List (List Elem)) → most < length a * length b → cross_of a b ≡ Err SetSize
+unfolding cross_of
 cross_many a b many = sized_many (crossed a b) (rw (length-crossed a b) many)
 
 -- the product with one tuple more of the first list

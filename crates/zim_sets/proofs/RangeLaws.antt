@@ -12,9 +12,9 @@ use Rattle.zim_rational.proofs.Whole.{same_Decides, whole_same}
 use Rattle.zim_rational.specs.Rational.{whole}
 use Rattle.zim_rational.specs.Rational as rational
 use Rattle.zim_sets.proofs.SetLemmas.{one_shape_from, sized_few, sized_many}
-use Rattle.zim_sets.specs.Ranges.{progression, distance, multiples_within, range_count, single, ranged, range_of}
+use Rattle.zim_sets.specs.Ranges.{progression, distance, multiples_within, range_count, single, range_tuples, range_of}
 use Rattle.zim_sets.specs.Sets.{same_shape, same_tuple, most, IsSet}
-use Rattle.zim_sets.specs.declared.faults.SetFault.TheVariants.{StepZero, SetSize}
+use Rattle.zim_fault.specs.declared.kinds.Kind.TheVariants.{StepZero, SetSize}
 use Rattle.zim_tuples.specs.declared.elements.Elem.{Elem}
 
 -- one step nearer
@@ -53,7 +53,7 @@ unfolding progression
 length-progression x s zero = refl
 length-progression x s (suc n) = let rest = length-progression (x +ℤ s) s n in omega arith
 
-pub length-ranged : (n m s : ℤ) → length (ranged n m s) ≡ range_count n m s
+pub length-ranged : (n m s : ℤ) → length (range_tuples n m s) ≡ range_count n m s
 length-ranged n m s = length-map (progression n s (range_count n m s)) single ∙ length-progression n s (range_count n m s)
 
 single_shape : (x : ℤ) (zs : List ℤ) → list_all (same_shape (single x)) (map single zs) ≡ true
@@ -86,23 +86,23 @@ progression_distinct x (negsuc a) (suc n) some =
     (below x (x +ℤ negsuc a) a n (omega (arith, ints)), progression_distinct (x +ℤ negsuc a) (negsuc a) n some)
 
 -- a range that isn't too long is a set
-pub ranged_set : (n m s : ℤ) → 0 < unsigned_abs s → range_count n m s ≤ most → IsSet (ranged n m s)
+pub ranged_set : (n m s : ℤ) → 0 < unsigned_abs s → range_count n m s ≤ most → IsSet (range_tuples n m s)
 ranged_set n m s some few = record {
   few = rw (length-ranged n m s) few;
-  one_shape = one_shape_from (single n) (ranged n m s) (single_shape n (progression n s (range_count n m s)));
+  one_shape = one_shape_from (single n) (range_tuples n m s) (single_shape n (progression n s (range_count n m s)));
   distinct = progression_distinct n s (range_count n m s) some;
 }
 
 moves : (s : ℤ) → 0 < unsigned_abs s → int_eq s (pos 0) ≡ false
 moves s some = unlike_by (int_eq s (pos 0)) (λ e. let none = ap unsigned_abs ((Decides-int_eq s (pos 0)).0 e) in omega arith)
 
-pub range_few : (n m s : ℤ) → 0 < unsigned_abs s → range_count n m s ≤ most → range_of n m s ≡ Ok (ranged n m s)
+pub range_few : (n m s : ℤ) → 0 < unsigned_abs s → range_count n m s ≤ most → range_of n m s ≡ Ok (range_tuples n m s)
 unfolding range_of
-range_few n m s some few = rw (moves s some) (sized_few (ranged n m s) (rw (length-ranged n m s) few))
+range_few n m s some few = rw (moves s some) (sized_few (range_tuples n m s) (rw (length-ranged n m s) few))
 
 pub range_many : (n m s : ℤ) → 0 < unsigned_abs s → most < range_count n m s → range_of n m s ≡ Err SetSize
 unfolding range_of
-range_many n m s some many = rw (moves s some) (sized_many (ranged n m s) (rw (length-ranged n m s) many))
+range_many n m s some many = rw (moves s some) (sized_many (range_tuples n m s) (rw (length-ranged n m s) many))
 
 pub range_stands : (n m s : ℤ) → s ≡ pos 0 → range_of n m s ≡ Err StepZero
 unfolding range_of
@@ -151,7 +151,7 @@ count_down_none n m (pos a) sign order = absurd (omega (arith, ints))
 count_down_none n m (negsuc a) sign order = none_within (n -ℤ m) (suc a) (omega (arith, ints))
 
 -- the list that the first number begins
-pub ranged_begins : (made : List (List Elem)) (n m s : ℤ) (count : ℕ) → count ≡ range_count n m s → 0 < count → made ≡ single n ∷ [] → made ++ map single (progression (n +ℤ s) s (count - length made)) ≡ ranged n m s
+pub ranged_begins : (made : List (List Elem)) (n m s : ℤ) (count : ℕ) → count ≡ range_count n m s → 0 < count → made ≡ single n ∷ [] → made ++ map single (progression (n +ℤ s) s (count - length made)) ≡ range_tuples n m s
 ranged_begins made n m s count all some first =
     (λ i. first i ++ map single (progression (n +ℤ s) s (count - length (first i)))) ∙ sym (progression_first n s count some) ∙ ap (λ k. map single (progression n s k)) all
 
@@ -173,7 +173,7 @@ ranged_ends made x s count whole_list done listed =
     let none : count - length made ≡ 0 = omega arith in
     sym (append-nil made) ∙ sym (ap (λ k. made ++ map single (progression (x +ℤ s) s k)) none) ∙ listed
 
-pub ranged_none : (n m s : ℤ) → range_count n m s ≡ 0 → ranged n m s ≡ []
+pub ranged_none : (n m s : ℤ) → range_count n m s ≡ 0 → range_tuples n m s ≡ []
 unfolding progression
 ranged_none n m s none = ap (λ k. map single (progression n s k)) none
 

@@ -7,7 +7,7 @@ use Rattle.zim_sets.proofs.DistinctLemmas.{distinct_append}
 use Rattle.zim_sets.proofs.ShapeLemmas.{shapes_equivalent, tuples_equivalent}
 use Rattle.zim_sets.specs.Insertion.{sized, inserted}
 use Rattle.zim_sets.specs.Sets.{same_shape, same_tuple, has_one_shape, are_alike, fits, has, most, IsSet}
-use Rattle.zim_sets.specs.declared.faults.SetFault.TheVariants.{WrongKind, SetSize}
+use Rattle.zim_fault.specs.declared.kinds.Kind.TheVariants.{WrongKind, SetSize}
 use Rattle.zim_tuples.specs.declared.elements.Elem.{Elem}
 
 pub empty_is_set : IsSet []

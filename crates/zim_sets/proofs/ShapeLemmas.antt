@@ -3,7 +3,7 @@ use Rattle.std.proofs.Common.{◌≡◌, true, refl}
 use Rattle.std.specs.Cmp.{IsEquivalence, decided}
 use Rattle.std.specs.Cmp.Lexicographic.{lists_equiv}
 use Rattle.zim_sets.specs.Sets.{same_kind, same_shape, same_tuple}
-use Rattle.zim_tuples.specs.Elements.{same, same_Decides}
+use Rattle.zim_tuples.specs.Elements.{same_element, same_Decides}
 use Rattle.zim_tuples.specs.declared.elements.Elem.{Elem}
 use Rattle.zim_tuples.specs.declared.elements.Elem.TheVariants.{Number, Text}
 
@@ -32,4 +32,4 @@ pub shapes_equivalent : IsEquivalence same_shape
 shapes_equivalent = lists_equiv kinds_equivalent
 
 pub tuples_equivalent : IsEquivalence same_tuple
-tuples_equivalent = lists_equiv (decided same same_Decides)
+tuples_equivalent = lists_equiv (decided same_element same_Decides)

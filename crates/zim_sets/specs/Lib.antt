@@ -2,6 +2,7 @@ pub mod Causes
 pub mod Choices
 pub mod Families
 pub mod Insertion
+pub mod Listing
 pub mod Operators
 pub mod Products
 pub mod Ranges

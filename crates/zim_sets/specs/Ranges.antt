@@ -3,8 +3,8 @@ use Rattle.std.specs.Prelude.{ℕ, ℤ, zero, suc, pos, negsuc, ◌+◌, ◌/◌
 use Rattle.std.specs.Ordering.{int_eq}
 use Rattle.zim_rational.specs.Rational.{whole}
 use Rattle.zim_sets.specs.Insertion.{sized}
-use Rattle.zim_sets.specs.declared.faults.SetFault.{SetFault}
-use Rattle.zim_sets.specs.declared.faults.SetFault.TheVariants.{StepZero}
+use Rattle.zim_fault.specs.declared.kinds.Kind.{Kind}
+use Rattle.zim_fault.specs.declared.kinds.Kind.TheVariants.{StepZero}
 use Rattle.zim_tuples.specs.declared.elements.Elem.{Elem}
 use Rattle.zim_tuples.specs.declared.elements.Elem.TheVariants.{Number}
 
@@ -32,9 +32,9 @@ abbrev pub single : ℤ → List Elem
 single number = Number (whole number) ∷ []
 
 -- the numbers n, n + s, .. up to m, or down to m where s is negative, each as a tuple
-abbrev pub ranged : ℤ → ℤ → ℤ → List (List Elem)
-ranged n m s = map single (progression n s (range_count n m s))
+abbrev pub range_tuples : ℤ → ℤ → ℤ → List (List Elem)
+range_tuples n m s = map single (progression n s (range_count n m s))
 
 -- the set of these, where the step isn't 0
-unfoldable pub range_of : ℤ → ℤ → ℤ → Result (List (List Elem)) SetFault
-range_of n m s = cond (int_eq s (pos 0)) (Err StepZero) (sized (ranged n m s))
+unfoldable pub range_of : ℤ → ℤ → ℤ → Result (List (List Elem)) Kind
+range_of n m s = cond (int_eq s (pos 0)) (Err StepZero) (sized (range_tuples n m s))

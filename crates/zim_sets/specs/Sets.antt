@@ -2,7 +2,7 @@
 use Rattle.std.specs.Prelude.{ℕ, ◌≤◌, ◌≡◌, Bool, true, false, List, [], ◌∷◌, length}
 use Rattle.std.specs.Cmp.Lexicographic.{pointwise}
 use Rattle.std.specs.List.{list_any, list_all, IsDistinct}
-use Rattle.zim_tuples.specs.Elements.{same}
+use Rattle.zim_tuples.specs.Elements.{same_element}
 use Rattle.zim_tuples.specs.declared.elements.Elem.{Elem}
 use Rattle.zim_tuples.specs.declared.elements.Elem.TheVariants.{Number, Text}
 
@@ -23,7 +23,7 @@ same_shape = pointwise same_kind
 
 -- whether two tuples are the same
 abbrev pub same_tuple : List Elem → List Elem → Bool
-same_tuple = pointwise same
+same_tuple = pointwise same_element
 
 -- whether a tuple is among those of a list
 abbrev pub has : List (List Elem) → List Elem → Bool

@@ -11,6 +11,7 @@
 mod copies;
 mod families;
 mod faults;
+mod listing;
 mod operators;
 mod products;
 mod ranges;
@@ -19,6 +20,7 @@ mod tuple_set;
 
 pub use families::{powerset, subsets};
 pub use faults::SetFault;
+pub use listing::set_of_list;
 pub use operators::{inter, symdiff, union, without};
 pub use products::{cross, proj};
 pub use ranges::range;

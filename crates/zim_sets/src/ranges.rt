@@ -4,7 +4,7 @@ ghost use Rattle.zim_answer.specs.Gives.{Gives};
 ghost use Rattle.zim_fraction.specs.Limit.{limit};
 ghost use Rattle.zim_sets.specs.Causes.{set_cause};
 ghost use Rattle.zim_sets.specs.Ranges as spec;
-ghost use Rattle.zim_sets.specs.Ranges.{ranged, range_of};
+ghost use Rattle.zim_sets.specs.Ranges.{range_tuples, range_of};
 
 use crate::faults::SetFault;
 use crate::tuple_set::{MOST, TupleSet};
@@ -50,7 +50,7 @@ fn numbers_within(
     requires last { unsigned_abs m ≤ limit }
     requires step { 0 < unsigned_abs s }
     requires all { count ≡ spec.range_count n m s }
-    ensures { IfOk result (λ made. made ≡ ranged n m s) }
+    ensures { IfOk result (λ made. made ≡ range_tuples n m s) }
 {
     let mut made = Sequence::new(alloc);
     if count == 0 {

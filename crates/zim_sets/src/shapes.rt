@@ -17,11 +17,13 @@ fn is_same_kind(left: &Elem, right: &Elem) -> bool
 pub(crate) fn is_same_shape(left: &[Elem], right: &[Elem]) -> bool
     ensures { result ≡ same_shape left.now right.now }
 {
-    match (left, right) {
-        ([], []) => true,
-        ([first, rest @ ..], [other, others @ ..]) => {
-            is_same_kind(first, other) && is_same_shape(rest, others)
-        }
-        _ => false,
+    if left.len() != right.len() {
+        return false;
     }
+    for at in 0..left.len() {
+        if !is_same_kind(&left[at], &right[at]) {
+            return false;
+        }
+    }
+    true
 }

@@ -1,9 +1,10 @@
 use super::{
-    SetFault, TupleSet, cross, inter, powerset, proj, range, subsets, symdiff, union, without,
+    SetFault, TupleSet, cross, inter, powerset, proj, range, set_of_list, subsets, symdiff, union,
+    without,
 };
 use std::alloc::Global;
 use std::test::Fail;
-use zim_fault::Bytes;
+use zim_fault::{Bytes, Duplicate};
 use zim_fraction::of;
 use zim_tuples::{Elem, Tuple};
 
@@ -177,5 +178,20 @@ fn faults_have_their_causes(rt: HostRuntime) -> Result<(), Fail> {
         Some(SetFault::WrongKind)
     );
     assert_eq!(rt; fault_of(range(alloc, 1, 2, 0)), Some(SetFault::StepZero));
+    Ok(())
+}
+
+#[test]
+fn a_list_keeps_the_first_of_equal_tuples(rt: HostRuntime) -> Result<(), Fail> {
+    let alloc = rt.alloc();
+    let mut listed = Vec::new(alloc);
+    for number in [3, 1, 3] {
+        let mut tuple = Tuple::new(alloc);
+        tuple.push(Elem::Number(of(number, 1)?))?;
+        listed.push(tuple)?;
+    }
+    let set = set_of_list(alloc, listed.as_slice())?;
+    assert!(rt; has_numbers(&set, &[3, 1]));
+    assert!(rt; has_numbers(&set.copy()?, &[3, 1]));
     Ok(())
 }

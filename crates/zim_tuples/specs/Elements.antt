@@ -11,14 +11,14 @@ use Rattle.zim_tuples.specs.declared.elements.Elem.{Elem}
 use Rattle.zim_tuples.specs.declared.elements.Elem.TheVariants.{Number, Text}
 
 -- whether two elements are one number or one text
-abbrev pub same : Elem → Elem → Bool
-same (Number p) (Number q) = rational.same p q
-same (Number p) (Text t) = false
-same (Text s) (Number q) = false
-same (Text s) (Text t) = pointwise nat_eq s t
+abbrev pub same_element : Elem → Elem → Bool
+same_element (Number p) (Number q) = rational.same p q
+same_element (Number p) (Text t) = false
+same_element (Text s) (Number q) = false
+same_element (Text s) (Text t) = pointwise nat_eq s t
 
 -- two elements are the same exactly where they are equal
-pub same_Decides : (a b : Elem) → Decides (same a b) (a ≡ b)
+pub same_Decides : (a b : Elem) → Decides (same_element a b) (a ≡ b)
 same_Decides (Number p) (Number q) =
     let d = whole.same_Decides p q in (λ t. ap Number (d.0 t), λ e. d.1 (cc))
 same_Decides (Number p) (Text t) = (λ h. cc, λ e. cc)

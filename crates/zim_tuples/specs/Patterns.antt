@@ -1,7 +1,7 @@
 -- When a tuple agrees with the slots of a pattern, and what it binds.
 use Rattle.std.specs.Prelude.{Bool, true, false, ◌&&◌, ◌==◌, cond, length, List, [], ◌∷◌, ◌++◌, Option, Some, None, slice_get, unwrap_or, option_map}
 use Rattle.std.specs.List.{list_all, flat_map, zip}
-use Rattle.zim_tuples.specs.Elements.{same}
+use Rattle.zim_tuples.specs.Elements.{same_element}
 use Rattle.zim_tuples.specs.declared.elements.Elem.{Elem}
 use Rattle.zim_tuples.specs.declared.environments.Binding.{Binding}
 use Rattle.zim_tuples.specs.declared.patterns.Slot.{Slot}
@@ -11,8 +11,8 @@ use Rattle.zim_tuples.specs.declared.patterns.Slot.TheVariants.{Free, Again, Fix
 -- the same component at that position, and with a fixed one where it is that element
 abbrev pub slot_agrees : List Elem → Slot → Elem → Bool
 slot_agrees tuple (Free name) component = true
-slot_agrees tuple (Again at) component = unwrap_or (option_map (λ earlier. same earlier component) (slice_get tuple at)) false
-slot_agrees tuple (Fixed element) component = same element component
+slot_agrees tuple (Again at) component = unwrap_or (option_map (λ earlier. same_element earlier component) (slice_get tuple at)) false
+slot_agrees tuple (Fixed element) component = same_element element component
 
 -- whether a tuple has as many components as there are slots, and each agrees with its slot
 abbrev pub agrees : List Slot → List Elem → Bool

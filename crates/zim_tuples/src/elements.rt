@@ -1,6 +1,6 @@
 ghost use Rattle.std.specs.Cmp.{decided, partial_equiv_from_equiv};
 ghost use Rattle.std.specs.Hash as fed;
-ghost use Rattle.zim_tuples.specs.Elements.{same, same_Decides, hash_input_of};
+ghost use Rattle.zim_tuples.specs.Elements.{same_element, same_Decides, hash_input_of};
 
 use std::hash::{Hash, Hasher};
 use zim_fault::{Bytes, Duplicate, Memory, Sequence};
@@ -17,9 +17,9 @@ pub enum Elem {
 pub type Tuple = Sequence<Elem>;
 
 impl PartialEq for Elem {
-    ghost eq = { same };
+    ghost eq = { same_element };
 
-    ghost laws = { partial_equiv_from_equiv (decided same same_Decides) };
+    ghost laws = { partial_equiv_from_equiv (decided same_element same_Decides) };
 
     fn eq(&self, other: &Elem) -> bool {
         match (self, other) {
@@ -31,7 +31,7 @@ impl PartialEq for Elem {
 }
 
 impl Eq for Elem {
-    ghost laws = { decided same same_Decides };
+    ghost laws = { decided same_element same_Decides };
 }
 
 impl Hash for Elem {

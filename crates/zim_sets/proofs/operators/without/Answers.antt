@@ -3,7 +3,7 @@ use Rattle.std.proofs.lemmas.Result.{err_from_is_err_and}
 use Rattle.std.specs.Bool.{beq}
 use Rattle.zim_answer.proofs.GivesLemmas.{Stops-equal}
 use Rattle.zim_answer.specs.Answer.{goes}
-use Rattle.zim_sets.proofs.JoinLaws.{without_made, unlike_made}
+use Rattle.zim_sets.proofs.JoinLaws.{without_made, unlike_without}
 use Rattle.zim_sets.specs.Causes.{set_cause}
 use Rattle.zim_sets.specs.Insertion.{inserted_where}
 use Rattle.zim_sets.specs.Operators.{without_of}
@@ -11,7 +11,7 @@ use Rattle.zim_sets.specs.Sets.{has}
 use Rattle.zim_sets.proofs.operators.without.Goals as goal
 
 pub returns-then-not-is_alike : goal.returns-then-not-is_alike
-returns-then-not-is_alike c = unlike_made c.args.a.now c.args.b.now _ (sym c.is_alike.ensures.answer ∙ c.if-not-is_alike.true)
+returns-then-not-is_alike c = unlike_without c.args.a.now c.args.b.now (sym c.is_alike.ensures.answer ∙ c.if-not-is_alike.true)
 
 pub returns-in_err-extend_where : goal.returns-in_err-extend_where
 returns-in_err-extend_where c =
