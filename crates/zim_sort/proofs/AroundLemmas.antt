@@ -6,9 +6,9 @@ use Rattle.std.specs.Cmp.Lexicographic.{pointwise}
 use Rattle.zim_fault.specs.declared.faults.Place.{Place}
 use Rattle.zim_tree.specs.declared.expr.Expr.{Expr}
 use Rattle.zim_typed.specs.declared.scope.Declared.{Declared}
-use Rattle.zim_typed.specs.Scope.{Text, Names, Scope, is_local, declared, is_known}
+use Rattle.zim_typed.specs.Scope.{Text, Names, Scope, is_local, kind_of_name, is_known}
 use Rattle.zim_typed.specs.Pattern.{bare_name, binds, bound_name}
-use Rattle.zim_sort.specs.declared.around.Around.{Around, Parameters, Index, the_lemmas}
+use Rattle.zim_sort.specs.declared.around.Around.{Around, Nothing, Parameters, Index, the_lemmas}
 use Rattle.zim_sort.specs.Around.{names_in}
 
 both : (a b : Bool) → (a && b) ≡ true → (a ≡ true) × (b ≡ true)
@@ -43,8 +43,8 @@ known_as : (scope : Scope) (names : Names) (name other : Text) (known : Bool) �
 known_as scope names name other known h same = ap (is_known scope names) (same_text name other same) ∙ h
 
 pub local_index : (scope : Scope) (names : Names) (name : Text) (items : List Expr) →
-    is_local (filter_map (bound_name scope names) items ++ names) name ≡ (is_local names name || (is_none (declared scope name) && list_any (λ item. binds name (bare_name item)) items))
-local_index scope names name [] = none (is_local names name) (declared scope name)
+    is_local (filter_map (bound_name scope names) items ++ names) name ≡ (is_local names name || (is_none (kind_of_name scope name) && list_any (λ item. binds name (bare_name item)) items))
+local_index scope names name [] = none (is_local names name) (kind_of_name scope name)
   where
     none : (local : Bool) (d : Option Declared) → local ≡ (local || (is_none d && false))
     none true d = refl
@@ -53,25 +53,28 @@ local_index scope names name [] = none (is_local names name) (declared scope nam
 local_index scope names name (item ∷ items) = at_bare (bare_name item) refl (local_index scope names name items)
   where
     at_known : (other : Text) (known : Bool) → bare_name item ≡ Some other → is_known scope names other ≡ known →
-        is_local (filter_map (bound_name scope names) items ++ names) name ≡ (is_local names name || (is_none (declared scope name) && list_any (λ item. binds name (bare_name item)) items)) →
-        is_local (filter_map (bound_name scope names) (item ∷ items) ++ names) name ≡ (is_local names name || (is_none (declared scope name) && list_any (λ item. binds name (bare_name item)) (item ∷ items)))
-    at_known other true is h others = rw (is, h) (others ∙ known_adds (pointwise nat_eq name other) (is_local names name) (declared scope name) _ (known_as scope names name other true h))
+        is_local (filter_map (bound_name scope names) items ++ names) name ≡ (is_local names name || (is_none (kind_of_name scope name) && list_any (λ item. binds name (bare_name item)) items)) →
+        is_local (filter_map (bound_name scope names) (item ∷ items) ++ names) name ≡ (is_local names name || (is_none (kind_of_name scope name) && list_any (λ item. binds name (bare_name item)) (item ∷ items)))
+    at_known other true is h others = rw (is, h) (others ∙ known_adds (pointwise nat_eq name other) (is_local names name) (kind_of_name scope name) _ (known_as scope names name other true h))
     at_known other false is h others =
         rw (is, h)
-        (ap (λ (b : Bool). pointwise nat_eq name other || b) others ∙ unknown_adds (pointwise nat_eq name other) (is_local names name) (declared scope name) _ (known_as scope names name other false h))
+        (ap (λ (b : Bool). pointwise nat_eq name other || b) others ∙ unknown_adds (pointwise nat_eq name other) (is_local names name) (kind_of_name scope name) _ (known_as scope names name other false h))
 
     at_bare : (bare : Option Text) → bare_name item ≡ bare →
-        is_local (filter_map (bound_name scope names) items ++ names) name ≡ (is_local names name || (is_none (declared scope name) && list_any (λ item. binds name (bare_name item)) items)) →
-        is_local (filter_map (bound_name scope names) (item ∷ items) ++ names) name ≡ (is_local names name || (is_none (declared scope name) && list_any (λ item. binds name (bare_name item)) (item ∷ items)))
+        is_local (filter_map (bound_name scope names) items ++ names) name ≡ (is_local names name || (is_none (kind_of_name scope name) && list_any (λ item. binds name (bare_name item)) items)) →
+        is_local (filter_map (bound_name scope names) (item ∷ items) ++ names) name ≡ (is_local names name || (is_none (kind_of_name scope name) && list_any (λ item. binds name (bare_name item)) (item ∷ items)))
     at_bare None is others = rw is others
     at_bare (Some other) is others = at_known other (is_known scope names other) is refl others
+
+pub names-Nothing : (scope : Scope) → names_in scope Nothing ≡ []
+names-Nothing scope = search (rules, the_lemmas)
 
 pub names-Index : (scope : Scope) (items : Bor (List Expr)) (outer : Bor Around) → names_in scope (Index items outer) ≡ filter_map (bound_name scope (names_in scope outer.now)) items.now ++ names_in scope outer.now
 names-Index scope items outer = search (rules, the_lemmas)
 
 -- the same of what an index binds, as it is held
 pub has_index : (scope : Scope) (items : Bor (List Expr)) (outer : Bor Around) (name : Text) →
-    is_local (names_in scope (Index items outer)) name ≡ (is_local (names_in scope outer.now) name || (is_none (declared scope name) && list_any (λ item. binds name (bare_name item)) items.now))
+    is_local (names_in scope (Index items outer)) name ≡ (is_local (names_in scope outer.now) name || (is_none (kind_of_name scope name) && list_any (λ item. binds name (bare_name item)) items.now))
 has_index scope items outer name = ap (λ (names : Names). is_local names name) (names-Index scope items outer) ∙ local_index scope (names_in scope outer.now) name items.now
 
 -- the parameters of a function, by their names
@@ -87,11 +90,11 @@ pub has_parameter : (scope : Scope) (parameters : Bor (List (Place × Text))) (n
 has_parameter scope parameters name = ap (λ (names : Names). is_local names name) (names-Parameters scope parameters) ∙ any_name name parameters.now
 
 pub bound_by_it : (scope : Scope) (around : Around) (items : Bor (List Expr)) (outer : Bor Around) (name : Text) → around ≡ Index items outer →
-    is_local (names_in scope outer.now) name ≡ false → is_some (declared scope name) ≡ false → is_local (names_in scope around) name ≡ list_any (λ item. binds name (bare_name item)) items.now
+    is_local (names_in scope outer.now) name ≡ false → is_some (kind_of_name scope name) ≡ false → is_local (names_in scope around) name ≡ list_any (λ item. binds name (bare_name item)) items.now
 bound_by_it scope around items outer name is outside new =
     ap (λ (a : Around). is_local (names_in scope a) name) is ∙ has_index scope items outer name ∙ (λ i. outside i || (not (new i) && list_any (λ item. binds name (bare_name item)) items.now))
 
 pub not_bound : (scope : Scope) (around : Around) (items : Bor (List Expr)) (outer : Bor Around) (name : Text) → around ≡ Index items outer →
-    is_local (names_in scope outer.now) name ≡ false → is_some (declared scope name) ≡ true → is_local (names_in scope around) name ≡ false
+    is_local (names_in scope outer.now) name ≡ false → is_some (kind_of_name scope name) ≡ true → is_local (names_in scope around) name ≡ false
 not_bound scope around items outer name is outside known =
     ap (λ (a : Around). is_local (names_in scope a) name) is ∙ has_index scope items outer name ∙ (λ i. outside i || (not (known i) && list_any (λ item. binds name (bare_name item)) items.now))

@@ -22,68 +22,68 @@ use Rattle.zim_tree.specs.declared.stmt.Doing.{Doing-F, fold-Doing}
 use Rattle.zim_tree.specs.declared.stmt.Printed.{Printed}
 use Rattle.zim_tree.specs.declared.stmt.Printed.TheVariants.{Value, Tuple}
 use Rattle.zim_nesting.specs.Depth.{nesting}
-use Rattle.zim_typed.specs.Scope.{Scope, declared}
+use Rattle.zim_typed.specs.Scope.{Scope, kind_of_name}
 use Rattle.zim_typed.specs.Nesting.{greatest, greatest_given, function_nesting}
 
 -- the full nesting of the functions that a condition calls, if there is one
-abbrev pub condition : Option (Bool × ℕ) → ℕ
-condition None = 0
-condition (Some c) = c.1
+abbrev pub calls_in_condition : Option (Bool × ℕ) → ℕ
+calls_in_condition None = 0
+calls_in_condition (Some c) = c.1
 
 -- the greatest full nesting of the functions that an expression calls, where it is known of its parts
-abbrev pub expr_step : Scope → Expr-F ℕ ℕ ℕ ℕ → ℕ
-expr_step scope (Expr-F.Number place digits) = 0
-expr_step scope (Expr-F.Text place text double) = 0
-expr_step scope (Expr-F.Truth place truth) = 0
-expr_step scope (Expr-F.Infinity place) = 0
-expr_step scope (Expr-F.Name place name) = 0
-expr_step scope (Expr-F.Item place name index) = greatest index
-expr_step scope (Expr-F.Call place name arguments) = max (function_nesting (declared scope name)) (greatest arguments)
-expr_step scope (Expr-F.Func place function arguments) = greatest arguments
-expr_step scope (Expr-F.Proj place set positions) = max set positions
-expr_step scope (Expr-F.Paren place inner) = inner
-expr_step scope (Expr-F.Braces place body) = body
-expr_step scope (Expr-F.If place vif test branch otherwise) = max test (max branch (greatest_given otherwise))
-expr_step scope (Expr-F.Factorial operand places) = operand
-expr_step scope (Expr-F.Power place sign base signed exponent) = max base exponent
-expr_step scope (Expr-F.Signed place minus operand) = operand
-expr_step scope (Expr-F.Big place loop index with_do operand) = max index operand
-expr_step scope (Expr-F.Times first others) = max first (greatest (map (λ x. x.2) others))
-expr_step scope (Expr-F.Plus first others) = max first (greatest (map (λ x. x.2) others))
-expr_step scope (Expr-F.Compare first others) = max first (greatest (map (λ x. x.2) others))
-expr_step scope (Expr-F.Member place tuple set) = max tuple set
-expr_step scope (Expr-F.Not place operand) = operand
-expr_step scope (Expr-F.And first others) = max first (greatest (map (λ x. x.1) others))
-expr_step scope (Expr-F.Or first others) = max first (greatest (map (λ x. x.2) others))
-expr_step scope (Expr-F.Forall place index with_do inside) = max index inside
+abbrev pub calls_in_expr : Scope → Expr-F ℕ ℕ ℕ ℕ → ℕ
+calls_in_expr scope (Expr-F.Number place digits) = 0
+calls_in_expr scope (Expr-F.Text place text double) = 0
+calls_in_expr scope (Expr-F.Truth place truth) = 0
+calls_in_expr scope (Expr-F.Infinity place) = 0
+calls_in_expr scope (Expr-F.Name place name) = 0
+calls_in_expr scope (Expr-F.Item place name index) = greatest index
+calls_in_expr scope (Expr-F.Call place name arguments) = max (function_nesting (kind_of_name scope name)) (greatest arguments)
+calls_in_expr scope (Expr-F.Func place function arguments) = greatest arguments
+calls_in_expr scope (Expr-F.Proj place set positions) = max set positions
+calls_in_expr scope (Expr-F.Paren place inner) = inner
+calls_in_expr scope (Expr-F.Braces place body) = body
+calls_in_expr scope (Expr-F.If place vif test branch otherwise) = max test (max branch (greatest_given otherwise))
+calls_in_expr scope (Expr-F.Factorial operand places) = operand
+calls_in_expr scope (Expr-F.Power place sign base signed exponent) = max base exponent
+calls_in_expr scope (Expr-F.Signed place minus operand) = operand
+calls_in_expr scope (Expr-F.Big place loop index with_do operand) = max index operand
+calls_in_expr scope (Expr-F.Times first others) = max first (greatest (map (λ x. x.2) others))
+calls_in_expr scope (Expr-F.Plus first others) = max first (greatest (map (λ x. x.2) others))
+calls_in_expr scope (Expr-F.Compare first others) = max first (greatest (map (λ x. x.2) others))
+calls_in_expr scope (Expr-F.Member place tuple set) = max tuple set
+calls_in_expr scope (Expr-F.Not place operand) = operand
+calls_in_expr scope (Expr-F.And first others) = max first (greatest (map (λ x. x.1) others))
+calls_in_expr scope (Expr-F.Or first others) = max first (greatest (map (λ x. x.2) others))
+calls_in_expr scope (Expr-F.Forall place index with_do inside) = max index inside
 
 -- a tuple
-abbrev pub angle_step : Angle-F ℕ ℕ ℕ ℕ → ℕ
-angle_step tuple = greatest tuple.items
+abbrev pub calls_in_angle : Angle-F ℕ ℕ ℕ ℕ → ℕ
+calls_in_angle tuple = greatest tuple.items
 
 -- an index with its condition
-abbrev pub index_step : Index-F ℕ ℕ ℕ ℕ → ℕ
-index_step index = max index.tuple (max index.set (condition index.cond))
+abbrev pub calls_in_index : Index-F ℕ ℕ ℕ ℕ → ℕ
+calls_in_index index = max index.tuple (max index.set (calls_in_condition index.cond))
 
 -- what stands in braces
-abbrev pub body_step : Body-F ℕ ℕ ℕ ℕ → ℕ
-body_step Body-F.Empty = 0
-body_step (Body-F.Members members) = greatest members
-body_step (Body-F.Tuples tuples) = greatest tuples
-body_step (Body-F.Those index) = index
-body_step (Body-F.Span from with_to to by) = max from (max to (greatest_given by))
+abbrev pub calls_in_body : Body-F ℕ ℕ ℕ ℕ → ℕ
+calls_in_body Body-F.Empty = 0
+calls_in_body (Body-F.Members members) = greatest members
+calls_in_body (Body-F.Tuples tuples) = greatest tuples
+calls_in_body (Body-F.Those index) = index
+calls_in_body (Body-F.Span from with_to to by) = max from (max to (greatest_given by))
 
 -- the greatest full nesting of the functions that an expression calls
 abbrev pub calls : Scope → Expr → ℕ
-calls scope = fold-Expr ℕ ℕ ℕ ℕ body_step (expr_step scope) angle_step index_step
+calls scope = fold-Expr ℕ ℕ ℕ ℕ calls_in_body (calls_in_expr scope) calls_in_angle calls_in_index
 
 -- of those that a tuple calls
 abbrev pub tuple_calls : Scope → Angle → ℕ
-tuple_calls scope = fold-Angle ℕ ℕ ℕ ℕ body_step (expr_step scope) angle_step index_step
+tuple_calls scope = fold-Angle ℕ ℕ ℕ ℕ calls_in_body (calls_in_expr scope) calls_in_angle calls_in_index
 
 -- of those that an index calls
 abbrev pub index_calls : Scope → Index → ℕ
-index_calls scope = fold-Index ℕ ℕ ℕ ℕ body_step (expr_step scope) angle_step index_step
+index_calls scope = fold-Index ℕ ℕ ℕ ℕ calls_in_body (calls_in_expr scope) calls_in_angle calls_in_index
 
 -- of those that expressions call
 abbrev pub all_calls : Scope → List Expr → ℕ
@@ -133,10 +133,10 @@ printed_calls scope (Value value) = calls scope value
 printed_calls scope (Tuple tuple) = tuple_calls scope tuple
 
 -- of those that a `do` calls, where it is known of what it does for each choice
-abbrev pub doing_step : Scope → Doing-F ℕ → ℕ
-doing_step scope (Doing-F.Print place items) = greatest (map (printed_calls scope) items)
-doing_step scope (Doing-F.Check place test) = calls scope test
-doing_step scope (Doing-F.Forall place index with_do inside) = max (index_calls scope index) inside
+abbrev pub calls_in_doing : Scope → Doing-F ℕ → ℕ
+calls_in_doing scope (Doing-F.Print place items) = greatest (map (printed_calls scope) items)
+calls_in_doing scope (Doing-F.Check place test) = calls scope test
+calls_in_doing scope (Doing-F.Forall place index with_do inside) = max (index_calls scope index) inside
 
 -- of those that what stands behind a statement's name calls
 abbrev pub shape_calls : Scope → Shape → ℕ
@@ -147,7 +147,7 @@ shape_calls scope (Var brackets kind limits priority startval) =
 shape_calls scope (Goal maximize objective) = calls scope objective
 shape_calls scope (Subto constraint) = calls scope constraint
 shape_calls scope (Define result parameters body) = calls scope body
-shape_calls scope (Do doing) = fold-Doing ℕ (doing_step scope) doing
+shape_calls scope (Do doing) = fold-Doing ℕ (calls_in_doing scope) doing
 
 -- the full nesting of a statement: its own, and the greatest full nesting of the functions that it calls
 abbrev pub full_nesting : Scope → Stmt → ℕ

@@ -17,13 +17,13 @@ use Rattle.zim_tree.specs.declared.expr.Expr.{Expr, Expr-F, map-Expr, fold-Expr}
 use Rattle.zim_tree.specs.declared.expr.Angle.{Angle, Angle-F, fold-Angle}
 use Rattle.zim_tree.specs.declared.expr.Index.{Index, Index-F, map-Index, fold-Index}
 use Rattle.zim_tree.specs.declared.expr.Body.{Body, Body-F, map-Body, fold-Body}
-use Rattle.zim_typed.specs.Scope.{Text, Names, Scope, Use, Unknown, Misused, bare, indexed, called, declared, is_indexed_set, takes}
+use Rattle.zim_typed.specs.Scope.{Text, Names, Scope, Use, Unknown, Misused, bare, indexed, called, kind_of_name, is_indexed_set, takes}
 use Rattle.zim_typed.specs.Pattern.{if_unknown}
 use Rattle.zim_typed.specs.Variables.{is_variable, is_vabs}
 use Rattle.zim_typed.specs.Variables as variables
 use Rattle.zim_typed.specs.Terms.{may_constrain}
 use Rattle.zim_sort.specs.declared.role.Role.{Role}
-use Rattle.zim_sort.specs.Roles.{inside, term_inside, operand, condition_inside, conjunct, constraint_inside, parenthesised, signed, branch_of, test, test_of, side, chain_side, summand, is_constraint, is_term, is_bound}
+use Rattle.zim_sort.specs.Roles.{inside, term_inside, operand, condition_inside, conjunct, constraint_inside, parenthesised, role_behind_sign, branch_of, test, test_of, side, chain_side, summand, is_constraint, is_term, is_bound}
 
 -- a fault, where its condition holds
 abbrev pub fault_if : Bool → Kind → Place → List Fault
@@ -81,14 +81,14 @@ fault_of_kind (Some kind) place = record { place = place; kind = kind } ∷ []
 -- the faults of a name, where it is known what is wrong with its use: a variable stands where no term may
 abbrev pub name_faults : Scope → Role → Place → Text → Option Kind → List Fault
 name_faults scope role place name wrong =
-    fault_of_kind wrong place ++ fault_if (is_variable (declared scope name) && not (is_term role)) VariableHere place ++ no_constraint role place
+    fault_of_kind wrong place ++ fault_if (is_variable (kind_of_name scope name) && not (is_term role)) VariableHere place ++ no_constraint role place
 
 -- ---- functions that are words
 
 -- the bare name of an indexed set
 abbrev pub is_indexed_set_name : Scope → Option Text → Bool
 is_indexed_set_name scope None = false
-is_indexed_set_name scope (Some name) = is_indexed_set (declared scope name)
+is_indexed_set_name scope (Some name) = is_indexed_set (kind_of_name scope name)
 
 -- one argument, which is the bare name of an indexed set
 abbrev pub is_set_argument : Scope → List Part → Bool
@@ -131,9 +131,9 @@ multiplies (sign_token SSlash) = true
 multiplies _ = false
 
 -- `/`
-abbrev pub divides : Token → Bool
-divides (sign_token SSlash) = true
-divides _ = false
+abbrev pub is_slash : Token → Bool
+is_slash (sign_token SSlash) = true
+is_slash _ = false
 
 -- whether a sum may be a term: all its operators are `+` and `-`
 abbrev pub is_by_signs : {A : Type 0} → List (Place × Token × A) → Bool
@@ -155,7 +155,7 @@ is_by_stars before ((place, token, part) ∷ others) = (not (before || part.vari
 unfoldable pub factors_faults : Bool → Bool → Role → Role → Names → List (Place × Token × Part) → List Fault
 factors_faults by_stars before whole role names [] = []
 factors_faults by_stars before whole role names ((place, token, part) ∷ others) =
-    fault_if (by_stars && part.varies && (before || divides token)) NotLinear place ++ no_constraint whole place ++ part.faults role names
+    fault_if (by_stars && part.varies && (before || is_slash token)) NotLinear place ++ no_constraint whole place ++ part.faults role names
     ++ factors_faults by_stars (before || part.varies) role role names others
 
 -- the faults of operands behind `and`
@@ -213,7 +213,7 @@ node_faults scope (Expr-F.If place vif condition then_part otherwise) role names
 node_faults scope (Expr-F.Factorial inner marks) role names = inner.faults (inside role) names ++ factorial_faults role marks
 node_faults scope (Expr-F.Power place sign base sign_of exponent) role names =
     base.faults (term_inside role) names ++ fault_if (base.varies || exponent.varies) NotLinear place ++ no_constraint role place ++ exponent.faults (term_inside role) names
-node_faults scope (Expr-F.Signed place minus inner) role names = no_constraint role place ++ inner.faults (signed inner.infinite role) names
+node_faults scope (Expr-F.Signed place minus inner) role names = no_constraint role place ++ inner.faults (role_behind_sign inner.infinite role) names
 node_faults scope (Expr-F.Big place keyword index with_do inner) role names =
     fault_if (is_prod keyword && (index.varies || inner.varies)) NotLinear place ++ no_constraint role place
     ++ index.faults (inside role) names ++ inner.faults (summand keyword role) (index.names names)
@@ -236,9 +236,9 @@ name_of_node (Expr-F.Name place name) = Some name
 name_of_node _ = None
 
 -- whether a node is `infinity`
-abbrev pub is_infinity : Node → Bool
-is_infinity (Expr-F.Infinity place) = true
-is_infinity _ = false
+abbrev pub is_infinity_node : Node → Bool
+is_infinity_node (Expr-F.Infinity place) = true
+is_infinity_node _ = false
 
 -- whether variables stand in what stands in braces
 abbrev pub body_varies : BodyPart → Bool
@@ -258,27 +258,27 @@ index_varies index = index.varies
 
 -- whether variables stand in a node
 abbrev pub node_varies : Scope → Node → Bool
-node_varies scope node = variables.expr_step scope (map-Expr BodyPart Part (List Part) IndexPart Bool Bool Bool Bool body_varies part_varies tuple_varies index_varies node)
+node_varies scope node = variables.variables_in_expr scope (map-Expr BodyPart Part (List Part) IndexPart Bool Bool Bool Bool body_varies part_varies tuple_varies index_varies node)
 
 -- what is known of an expression
-abbrev pub expr_step : Scope → Node → Part
-expr_step scope node = record { varies = node_varies scope node; name = name_of_node node; infinite = is_infinity node; faults = node_faults scope node }
+abbrev pub expr_part : Scope → Node → Part
+expr_part scope node = record { varies = node_varies scope node; name = name_of_node node; infinite = is_infinity_node node; faults = node_faults scope node }
 
 -- what is known of a tuple: what is known of its items
-abbrev pub angle_step : Angle-F BodyPart Part (List Part) IndexPart → List Part
-angle_step tuple = tuple.items
+abbrev pub angle_part : Angle-F BodyPart Part (List Part) IndexPart → List Part
+angle_part tuple = tuple.items
 
 -- the name that an item of an index's tuple binds, if it binds one
-abbrev pub bound_by : Scope → Names → Part → Option Text
-bound_by scope names part = if_unknown scope names part.name
+abbrev pub name_bound_by : Scope → Names → Part → Option Text
+name_bound_by scope names part = if_unknown scope names part.name
 
 -- the names that are bound behind an index with this tuple
 abbrev pub names_behind : Scope → Names → List Part → Names
-names_behind scope names tuple = filter_map (bound_by scope names) tuple ++ names
+names_behind scope names tuple = filter_map (name_bound_by scope names) tuple ++ names
 
 -- the faults of an item of an index's tuple: a name that is bound has none
 abbrev pub component_faults : Scope → Role → Names → Part → List Fault
-component_faults scope role names part = if is_some (bound_by scope names part) then [] else part.faults role names
+component_faults scope role names part = if is_some (name_bound_by scope names part) then [] else part.faults role names
 
 -- the faults of the items
 abbrev pub components_faults : Scope → Role → Names → List Part → List Fault
@@ -295,48 +295,72 @@ index_faults scope index role names =
     components_faults scope role names index.tuple ++ index.set.faults role names ++ condition_faults role (names_behind scope names index.tuple) index.cond
 
 -- what is known of an index
-abbrev pub index_step : Scope → Index-F BodyPart Part (List Part) IndexPart → IndexPart
-index_step scope index =
+abbrev pub index_part : Scope → Index-F BodyPart Part (List Part) IndexPart → IndexPart
+index_part scope index =
     record {
-      varies = variables.index_step (map-Index BodyPart Part (List Part) IndexPart Bool Bool Bool Bool body_varies part_varies tuple_varies index_varies index);
+      varies = variables.variables_in_index (map-Index BodyPart Part (List Part) IndexPart Bool Bool Bool Bool body_varies part_varies tuple_varies index_varies index);
       faults = index_faults scope index;
       names = λ names. names_behind scope names index.tuple;
     }
+
+-- the faults of tuples one behind the other
+abbrev pub tuples_faults : Role → Names → List (List Part) → List Fault
+tuples_faults role names tuples = flat_map (all_faults role names) tuples
 
 -- the faults of what stands in braces
 abbrev pub body_faults : Body-F BodyPart Part (List Part) IndexPart → Role → Names → List Fault
 body_faults Body-F.Empty role names = []
 body_faults (Body-F.Members members) role names = all_faults role names members
-body_faults (Body-F.Tuples tuples) role names = flat_map (all_faults role names) tuples
+body_faults (Body-F.Tuples tuples) role names = tuples_faults role names tuples
 body_faults (Body-F.Those index) role names = index.faults role names
 body_faults (Body-F.Span from with_to to by) role names = from.faults role names ++ to.faults role names ++ given_faults role names by
 
 -- what is known of what stands in braces
-abbrev pub body_step : Body-F BodyPart Part (List Part) IndexPart → BodyPart
-body_step body =
-    record { varies = variables.body_step (map-Body BodyPart Part (List Part) IndexPart Bool Bool Bool Bool body_varies part_varies tuple_varies index_varies body); faults = body_faults body }
+abbrev pub body_part : Body-F BodyPart Part (List Part) IndexPart → BodyPart
+body_part body =
+    record { varies = variables.variables_in_body (map-Body BodyPart Part (List Part) IndexPart Bool Bool Bool Bool body_varies part_varies tuple_varies index_varies body); faults = body_faults body }
 
 -- what is known of an expression, under a scope
 abbrev pub part_of : Scope → Expr → Part
-part_of scope = fold-Expr BodyPart Part (List Part) IndexPart body_step (expr_step scope) angle_step (index_step scope)
+part_of scope = fold-Expr BodyPart Part (List Part) IndexPart body_part (expr_part scope) angle_part (index_part scope)
 
 -- what is known of the items of a tuple
-abbrev pub items_of : Scope → Angle → List Part
-items_of scope = fold-Angle BodyPart Part (List Part) IndexPart body_step (expr_step scope) angle_step (index_step scope)
+abbrev pub parts_of_angle : Scope → Angle → List Part
+parts_of_angle scope = fold-Angle BodyPart Part (List Part) IndexPart body_part (expr_part scope) angle_part (index_part scope)
 
 -- what is known of an index
-abbrev pub index_of : Scope → Index → IndexPart
-index_of scope = fold-Index BodyPart Part (List Part) IndexPart body_step (expr_step scope) angle_step (index_step scope)
+abbrev pub part_of_index : Scope → Index → IndexPart
+part_of_index scope = fold-Index BodyPart Part (List Part) IndexPart body_part (expr_part scope) angle_part (index_part scope)
 
 -- what is known of what stands in braces
-abbrev pub body_of : Scope → Body → BodyPart
-body_of scope = fold-Body BodyPart Part (List Part) IndexPart body_step (expr_step scope) angle_step (index_step scope)
+abbrev pub part_of_body : Scope → Body → BodyPart
+part_of_body scope = fold-Body BodyPart Part (List Part) IndexPart body_part (expr_part scope) angle_part (index_part scope)
 
 -- what is known of expressions
 abbrev pub parts_of : Scope → List Expr → List Part
 parts_of scope items = map (part_of scope) items
 
+-- what is known of the items of tuples
+abbrev pub tuples_of : Scope → List Angle → List (List Part)
+tuples_of scope tuples = map (parts_of_angle scope) tuples
+
+-- what is known of operands behind operators
+abbrev pub known_operands : Scope → List (Place × Token × Expr) → List (Place × Token × Part)
+known_operands scope others = map (λ (x : Place × Token × Expr). (x.0, x.1, part_of scope x.2)) others
+
+-- what is known of operands behind relations
+abbrev pub known_sides : Scope → List (Place × Relation × Expr) → List (Place × Relation × Part)
+known_sides scope others = map (λ (x : Place × Relation × Expr). (x.0, x.1, part_of scope x.2)) others
+
+-- what is known of operands behind `or` and `xor`
+abbrev pub known_disjuncts : Scope → List (Place × Bool × Expr) → List (Place × Bool × Part)
+known_disjuncts scope others = map (λ (x : Place × Bool × Expr). (x.0, x.1, part_of scope x.2)) others
+
+-- what is known of operands behind `and`
+abbrev pub known_conjuncts : Scope → List (Place × Expr) → List (Place × Part)
+known_conjuncts scope others = map (λ (x : Place × Expr). (x.0, part_of scope x.1)) others
+
 -- the first of faults, if there is one
-abbrev pub first_of : List Fault → Option Fault
-first_of [] = None
-first_of (f ∷ fs) = Some f
+abbrev pub first_of_faults : List Fault → Option Fault
+first_of_faults [] = None
+first_of_faults (f ∷ fs) = Some f

@@ -42,10 +42,10 @@ parenthesised Bound = Value
 parenthesised role = role
 
 -- what stands behind a sign: a bound may be `infinity` there, and nothing larger that holds it
-abbrev pub signed : Bool → Role → Role
-signed true Bound = Bound
-signed false Bound = Value
-signed infinite role = term_inside role
+abbrev pub role_behind_sign : Bool → Role → Role
+role_behind_sign true Bound = Bound
+role_behind_sign false Bound = Value
+role_behind_sign infinite role = term_inside role
 
 -- the parts between which an `if` picks
 abbrev pub branch : Role → Role

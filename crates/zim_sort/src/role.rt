@@ -93,7 +93,7 @@ impl Role {
 
     /// What stands behind a sign, and is `infinity` or not.
     pub(crate) fn signed(self, infinite: bool) -> Role
-        ensures { result ≡ spec.signed infinite self }
+        ensures { result ≡ spec.role_behind_sign infinite self }
     {
         match self {
             Role::Bound => if infinite { Role::Bound } else { Role::Value },

@@ -1,6 +1,8 @@
-ghost use Rattle.std.specs.Prelude.{◌≡◌, [], is_some, option_copied};
-ghost use Rattle.zim_typed.specs.Scope.{declared};
-ghost use Rattle.zim_sort.specs.Scopes.{AreDeclaredOnce};
+ghost use Rattle.std.specs.Prelude.{◌≡◌, [], map, is_some, option_copied};
+ghost use Rattle.zim_typed.specs.Scope.{kind_of_name};
+ghost use Rattle.std.specs.List.{list_any};
+ghost use Rattle.zim_sort.specs.Scopes.{AreDeclaredOnce, is_the_objective};
+ghost use Rattle.zim_sort.specs.Scopes as spec;
 
 use indexmap::IndexMap;
 use std::alloc::Global;
@@ -37,15 +39,32 @@ impl Scope {
 
     /// What a name is declared to be. None exactly where it isn't declared.
     pub fn get(&self, name: &Bytes) -> Option<&Declared>
-        ensures { option_copied result ≡ declared self.now name.now }
+        ensures { option_copied result ≡ kind_of_name self.now name.now }
     {
         self.entries.get(name)
     }
 
     /// Whether a name is declared.
     pub fn is_declared(&self, name: &Bytes) -> bool
-        ensures { result ≡ is_some (declared self.now name.now) }
+        ensures { result ≡ is_some (kind_of_name self.now name.now) }
     {
         self.get(name).is_some()
+    }
+
+    /// Whether an objective is declared.
+    pub(crate) fn has_objective(&self) -> bool
+        ensures { result ≡ list_any is_the_objective (map (λ entry. entry.1) self.now) }
+    {
+        self.entries.values().any(|what| is_the_objective(what))
+    }
+}
+
+/// Whether a name stands for the objective.
+fn is_the_objective(what: &Declared) -> bool
+    ensures { result ≡ spec.is_the_objective (what.now) }
+{
+    match what {
+        Declared::Objective => true,
+        _ => false,
     }
 }

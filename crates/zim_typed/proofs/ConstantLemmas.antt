@@ -16,7 +16,7 @@ use Rattle.zim_typed.specs.declared.constant.TBody.{TBody}
 use Rattle.zim_typed.specs.declared.constant.Const.TheVariants as const
 use Rattle.zim_typed.specs.declared.constant.Resolved.{Resolved}
 use Rattle.zim_typed.specs.declared.constant.Resolved.TheVariants as resolved
-use Rattle.zim_typed.specs.Scope.{Text, Names, Scope, Use, Stands, Misused, is_local, declared, bare_declared, indexed_declared, called_declared, takes}
+use Rattle.zim_typed.specs.Scope.{Text, Names, Scope, Use, Stands, Misused, is_local, kind_of_name, bare_declared, indexed_declared, called_declared, takes}
 use Rattle.zim_typed.specs.Pattern.{binds, binding}
 use Rattle.zim_typed.specs.Constants.{IsConst, AreConsts, AreOperands, AreConjuncts, AreDisjuncts, IsTuple, AreTuples, AreSlots, IsLoop, IsBody, const_number, const_text, const_truth, const_name, const_item, const_call, const_function, const_indexset, const_projection, const_parentheses, const_braces, const_if, const_factorial, const_power, const_signed, const_big, const_product, const_sum, const_comparison, const_member, const_not, const_and, const_or, no_const, one_const, no_operand, one_operand, no_conjunct, one_conjunct, no_disjunct, one_disjunct, is_tuple, no_tuple, one_tuple, no_slot, free_slot, again_slot, fixed_slot, is_loop, is_loop_with, is_empty, is_members, is_tuples, is_choices, is_span, is_span_by}
 use Rattle.zim_typed.specs.Suits.{SuitsConst, ConstsSuit, OperandsSuit, ConjunctsSuit, DisjunctsSuit, SuitsTuple, TuplesSuit, SlotsSuit, SuitsLoop, SuitsBody, suits_number, suits_text, suits_truth, suits_local, suits_name, suits_item, suits_call, suits_function, suits_indexset, suits_projection, suits_parentheses, suits_braces, suits_if, suits_factorial, suits_power, suits_signed, suits_big, suits_product, suits_sum, suits_comparison, suits_member, suits_not, suits_and, suits_or, suits_none, suits_one, suits_no_operand, suits_one_operand, suits_no_conjunct, suits_one_conjunct, suits_no_disjunct, suits_one_disjunct, suits_tuple, suits_no_tuple, suits_one_tuple, suits_no_slot, suits_free, suits_again, suits_fixed, suits_loop, suits_loop_with, suits_empty, suits_members, suits_tuples, suits_choices, suits_span, suits_span_by}
@@ -46,7 +46,7 @@ only_local r h = grind arith
 
 -- a bare name is bound around it, or stands for what its declaration says
 name_suits : {scope : Scope} {names : Names} (p : Place) (name : Text) (r : Resolved) (local : Bool) → is_local names name ≡ local →
-    (if local then Stands resolved.Local else bare_declared (declared scope name)) ≡ Stands r → SuitsConst scope names (const.Name p name r)
+    (if local then Stands resolved.Local else bare_declared (kind_of_name scope name)) ≡ Stands r → SuitsConst scope names (const.Name p name r)
 name_suits {scope} {names} p name r true is h = subst (λ x. SuitsConst scope names (const.Name p name x)) (only_local r h) (suits_local p name is)
 name_suits p name r false is h = suits_name p name h
 
@@ -57,10 +57,10 @@ mutual
   const_suits (const_truth p truth) = suits_truth p truth
   const_suits {scope} {names} (const_name p name {r = r} h) = name_suits p name r (is_local names name) refl h
   const_suits {scope} {names} (const_item p name {r = r} h index) =
-      suits_item p name (not_local (is_local names name) (indexed_declared (declared scope name)) r h) (consts_suit index)
+      suits_item p name (not_local (is_local names name) (indexed_declared (kind_of_name scope name)) r h) (consts_suit index)
   const_suits {scope} {names} (const_call p name {r = r} {given = items} {cs = cs} h given) =
       suits_call p name
-      (subst (λ n. called_declared n (declared scope name) ≡ Stands r) (as_many given) (not_local (is_local names name) (called_declared (length items) (declared scope name)) r h))
+      (subst (λ n. called_declared n (kind_of_name scope name) ≡ Stands r) (as_many given) (not_local (is_local names name) (called_declared (length items) (kind_of_name scope name)) r h))
       (consts_suit given)
   const_suits (const_function p word is h given) = suits_function p is (subst (λ n. takes word n ≡ true) (as_many given) h) (consts_suit given)
   const_suits (const_indexset p q name h) = suits_indexset p q name h

@@ -11,7 +11,7 @@ use Rattle.zim_tree.specs.declared.expr.Index.{Index}
 use Rattle.zim_tree.specs.declared.expr.Body.{Body}
 use Rattle.zim_tree.specs.declared.expr.Body.TheViews.{roll-out-Expr}
 use Rattle.zim_tree.specs.Trees as trees
-use Rattle.zim_nesting.specs.Depth.{Depth, plain, a_loop, inside, ◌then◌, followed, all, expr_step, angle_step, index_step, body_step, depth, angle_depth, index_depth}
+use Rattle.zim_nesting.specs.Depth.{Depth, no_nesting, a_loop, nesting_in_brackets, ◌followed_by◌, followed, all, expr_nesting, angle_nesting, index_nesting, body_nesting, depth, angle_depth, index_depth}
 use Rattle.zim_nesting.specs.Depth as of_tree
 use Rattle.zim_nesting.proofs.DepthLaws.{depth-angle, depth-index, depth-Number, depth-Text, depth-Truth, depth-Name, depth-Item, depth-Call, depth-Func, depth-Proj, depth-Paren, depth-Braces, depth-If, depth-Factorial, depth-Power, depth-Signed, depth-Big, depth-Times, depth-Plus, depth-Compare, depth-Member, depth-Not, depth-And, depth-Or, depth-Empty, depth-Members, depth-Tuples, depth-Those, depth-Span}
 use Rattle.zim_typed.specs.declared.constant.Const.{Const}
@@ -27,7 +27,7 @@ use Rattle.zim_typed.specs.Constants.{IsConst, AreConsts, AreOperands, AreConjun
 use Rattle.zim_typed.proofs.NestingLaws.{slot_depth, body_depth, loop_depth, tuple_depth, nests-tuple, nests-loop, nests-Free, nests-Again, nests-Fixed, nests-Empty, nests-Members, nests-Tuples, nests-Those, nests-Span, nests-Number, nests-Text, nests-Truth, nests-Name, nests-Item, nests-Call, nests-Func, nests-Proj, nests-Paren, nests-Braces, nests-If, nests-Factorial, nests-Power, nests-Signed, nests-Big, nests-Times, nests-Plus, nests-Compare, nests-Member, nests-Not, nests-And, nests-Or}
 
 -- a bare name opens nothing
-bare_node : (name : Text) (d : Expr-F Body Expr Angle Index) → name_node d ≡ Some name → expr_step (map-Expr Body Expr Angle Index Depth Depth Depth Depth of_tree.body_depth depth angle_depth index_depth d) ≡ plain
+bare_node : (name : Text) (d : Expr-F Body Expr Angle Index) → name_node d ≡ Some name → expr_nesting (map-Expr Body Expr Angle Index Depth Depth Depth Depth of_tree.body_depth depth angle_depth index_depth d) ≡ no_nesting
 bare_node name (Expr-F.Name a b) h = refl
 bare_node name (Expr-F.Number a b) h = absurd (none-some name h)
 bare_node name (Expr-F.Text a b c) h = absurd (none-some name h)
@@ -57,10 +57,10 @@ known_bare : (scope : Scope) (names : Names) (bare : Option Text) (name : Text) 
 known_bare scope names None name h = absurd (none-some name h)
 known_bare scope names (Some other) name h = (other, refl)
 
-bound_plain : (scope : Scope) (names : Names) (item : Expr) (name : Text) → bound_name scope names item ≡ Some name → depth item ≡ plain
+bound_plain : (scope : Scope) (names : Names) (item : Expr) (name : Text) → bound_name scope names item ≡ Some name → depth item ≡ no_nesting
 bound_plain scope names item name h =
     let known = known_bare scope names (bare_name item) name h in
-    ap depth (sym (roll-out-Expr item)) ∙ fold-roll-Expr Depth Depth Depth Depth body_step expr_step angle_step index_step (out-Expr item) ∙ bare_node known.0 (out-Expr item) known.1
+    ap depth (sym (roll-out-Expr item)) ∙ fold-roll-Expr Depth Depth Depth Depth body_nesting expr_nesting angle_nesting index_nesting (out-Expr item) ∙ bare_node known.0 (out-Expr item) known.1
 
 mutual
   pub const_nests : {scope : Scope} {names : Names} {e : Expr} {c : Const} → IsConst scope names e c → depth e ≡ const_depth c
@@ -68,26 +68,26 @@ mutual
   const_nests (const_text p text double) = depth-Text p text double ∙ sym (nests-Text p text double)
   const_nests (const_truth p truth) = depth-Truth p truth ∙ sym (nests-Truth p truth)
   const_nests (const_name p name {r = r} h) = depth-Name p name ∙ sym (nests-Name p name r)
-  const_nests (const_item p name {r = r} {index = items} {cs = cs} h index) = depth-Item p name items ∙ ap (λ (ds : List Depth). inside (all ds)) (consts_nest index) ∙ sym (nests-Item p name cs r)
-  const_nests (const_call p name {r = r} {given = items} {cs = cs} h given) = depth-Call p name items ∙ ap (λ (ds : List Depth). inside (all ds)) (consts_nest given) ∙ sym (nests-Call p name cs r)
-  const_nests (const_function p word {given = items} {cs = cs} is h given) = depth-Func p word items ∙ ap (λ (ds : List Depth). inside (all ds)) (consts_nest given) ∙ sym (nests-Func p word cs)
+  const_nests (const_item p name {r = r} {index = items} {cs = cs} h index) = depth-Item p name items ∙ ap (λ (ds : List Depth). nesting_in_brackets (all ds)) (consts_nest index) ∙ sym (nests-Item p name cs r)
+  const_nests (const_call p name {r = r} {given = items} {cs = cs} h given) = depth-Call p name items ∙ ap (λ (ds : List Depth). nesting_in_brackets (all ds)) (consts_nest given) ∙ sym (nests-Call p name cs r)
+  const_nests (const_function p word {given = items} {cs = cs} is h given) = depth-Func p word items ∙ ap (λ (ds : List Depth). nesting_in_brackets (all ds)) (consts_nest given) ∙ sym (nests-Func p word cs)
   const_nests (const_indexset p q name h) =
-      depth-Func p WIndexset (tree.Name q name ∷ []) ∙ ap (λ (d : Depth). inside (all (d ∷ []))) (depth-Name q name ∙ sym (nests-Name q name resolved.Set)) ∙ sym (nests-Func p WIndexset _)
-  const_nests (const_projection p {set = set} {positions = positions} {c = c} {t = t} s ts) = depth-Proj p set positions ∙ (λ i. inside (const_nests s i then tuple_nests ts i)) ∙ sym (nests-Proj p c t)
-  const_nests (const_parentheses p {inner = e} {c = c} d) = depth-Paren p e ∙ ap inside (const_nests d) ∙ sym (nests-Paren p c)
-  const_nests (const_braces p {inside = body} {b = b} d) = depth-Braces p body ∙ ap inside (body_nests d) ∙ sym (nests-Braces p b)
+      depth-Func p WIndexset (tree.Name q name ∷ []) ∙ ap (λ (d : Depth). nesting_in_brackets (all (d ∷ []))) (depth-Name q name ∙ sym (nests-Name q name resolved.Set)) ∙ sym (nests-Func p WIndexset _)
+  const_nests (const_projection p {set = set} {positions = positions} {c = c} {t = t} s ts) = depth-Proj p set positions ∙ (λ i. nesting_in_brackets (const_nests s i followed_by tuple_nests ts i)) ∙ sym (nests-Proj p c t)
+  const_nests (const_parentheses p {inner = e} {c = c} d) = depth-Paren p e ∙ ap nesting_in_brackets (const_nests d) ∙ sym (nests-Paren p c)
+  const_nests (const_braces p {inside = body} {b = b} d) = depth-Braces p body ∙ ap nesting_in_brackets (body_nests d) ∙ sym (nests-Braces p b)
   const_nests (const_if p {test = e} {branch = f} {otherwise = g} {c = c} {d = d} {e = h} x y z) =
-      depth-If p false e f (Some g) ∙ (λ i. inside (const_nests x i then const_nests y i then const_nests z i)) ∙ sym (nests-If p c d h)
+      depth-If p false e f (Some g) ∙ (λ i. nesting_in_brackets (const_nests x i followed_by const_nests y i followed_by const_nests z i)) ∙ sym (nests-If p c d h)
   const_nests (const_factorial marks {operand = e} {c = c} d) = depth-Factorial e marks ∙ const_nests d ∙ sym (nests-Factorial c marks)
-  const_nests (const_power p sign signed {base = e} {exponent = f} {c = c} {d = d} x y) = depth-Power p sign e signed f ∙ (λ i. const_nests x i then const_nests y i) ∙ sym (nests-Power p sign c signed d)
+  const_nests (const_power p sign signed {base = e} {exponent = f} {c = c} {d = d} x y) = depth-Power p sign e signed f ∙ (λ i. const_nests x i followed_by const_nests y i) ∙ sym (nests-Power p sign c signed d)
   const_nests (const_signed p minus {operand = e} {c = c} d) = depth-Signed p minus e ∙ const_nests d ∙ sym (nests-Signed p minus c)
   const_nests (const_big p word with_do {index = index} {operand = e} {l = l} {c = c} x y) =
-      depth-Big p word index with_do e ∙ (λ i. a_loop then loop_nests x i then const_nests y i) ∙ sym (nests-Big p word l with_do c)
+      depth-Big p word index with_do e ∙ (λ i. a_loop followed_by loop_nests x i followed_by const_nests y i) ∙ sym (nests-Big p word l with_do c)
   const_nests (const_product {first = e} {others = others} {c = c} {cs = cs} x y) = depth-Times e others ∙ (λ i. followed (const_nests x i) (operands_nest y i)) ∙ sym (nests-Times c cs)
   const_nests (const_sum {first = e} {others = others} {c = c} {cs = cs} x y) = depth-Plus e others ∙ (λ i. followed (const_nests x i) (operands_nest y i)) ∙ sym (nests-Plus c cs)
   const_nests (const_comparison p relation {left = e} {right = f} {c = c} {d = d} x y) =
-      depth-Compare e ((p, relation, f) ∷ []) ∙ (λ i. const_nests x i then const_nests y i) ∙ sym (nests-Compare p relation c d)
-  const_nests (const_member p {tuple = tuple} {set = e} {t = t} {c = c} x y) = depth-Member p tuple e ∙ (λ i. tuple_nests x i then const_nests y i) ∙ sym (nests-Member p t c)
+      depth-Compare e ((p, relation, f) ∷ []) ∙ (λ i. const_nests x i followed_by const_nests y i) ∙ sym (nests-Compare p relation c d)
+  const_nests (const_member p {tuple = tuple} {set = e} {t = t} {c = c} x y) = depth-Member p tuple e ∙ (λ i. tuple_nests x i followed_by const_nests y i) ∙ sym (nests-Member p t c)
   const_nests (const_not p {operand = e} {c = c} d) = depth-Not p e ∙ const_nests d ∙ sym (nests-Not p c)
   const_nests (const_and {first = e} {others = others} {c = c} {cs = cs} x y) = depth-And e others ∙ (λ i. followed (const_nests x i) (conjuncts_nest y i)) ∙ sym (nests-And c cs)
   const_nests (const_or {first = e} {others = others} {c = c} {cs = cs} x y) = depth-Or e others ∙ (λ i. followed (const_nests x i) (disjuncts_nest y i)) ∙ sym (nests-Or c cs)
@@ -126,15 +126,15 @@ mutual
 
   loop_nests : {scope : Scope} {names inner : Names} {index : Index} {l : Loop} → IsLoop scope names index l inner → index_depth index ≡ loop_depth l
   loop_nests (is_loop p q {items = items} {slots = slots} {set = set} {c = c} s d) =
-      depth-index p (trees.angle_of q items) set None ∙ (λ i. (depth-angle q items ∙ ap all (slots_nest s)) i then const_nests d i then plain) ∙ sym (nests-loop p slots c None)
+      depth-index p (trees.angle_of q items) set None ∙ (λ i. (depth-angle q items ∙ ap all (slots_nest s)) i followed_by const_nests d i followed_by no_nesting) ∙ sym (nests-loop p slots c None)
   loop_nests (is_loop_with p q bar {items = items} {slots = slots} {set = set} {cond = cond} {c = c} {d = d} s x y) =
-      depth-index p (trees.angle_of q items) set (Some (bar, cond)) ∙ (λ i. (depth-angle q items ∙ ap all (slots_nest s)) i then const_nests x i then const_nests y i) ∙ sym (nests-loop p slots c (Some d))
+      depth-index p (trees.angle_of q items) set (Some (bar, cond)) ∙ (λ i. (depth-angle q items ∙ ap all (slots_nest s)) i followed_by const_nests x i followed_by const_nests y i) ∙ sym (nests-loop p slots c (Some d))
 
   body_nests : {scope : Scope} {names : Names} {body : Body} {b : TBody} → IsBody scope names body b → of_tree.body_depth body ≡ body_depth b
   body_nests is_empty = depth-Empty ∙ sym nests-Empty
   body_nests (is_members {members = members} {cs = cs} d) = depth-Members members ∙ ap all (consts_nest d) ∙ sym (nests-Members cs)
   body_nests (is_tuples {tuples = tuples} {ts = ts} d) = depth-Tuples tuples ∙ ap all (tuples_nest d) ∙ sym (nests-Tuples ts)
   body_nests (is_choices {index = index} {l = l} d) = depth-Those index ∙ loop_nests d ∙ sym (nests-Those l)
-  body_nests (is_span with_to {from = e} {to = f} {c = c} {d = d} x y) = depth-Span e with_to f None ∙ (λ i. const_nests x i then const_nests y i then plain) ∙ sym (nests-Span c with_to d None)
+  body_nests (is_span with_to {from = e} {to = f} {c = c} {d = d} x y) = depth-Span e with_to f None ∙ (λ i. const_nests x i followed_by const_nests y i followed_by no_nesting) ∙ sym (nests-Span c with_to d None)
   body_nests (is_span_by with_to {from = e} {to = f} {by = g} {c = c} {d = d} {e = h} x y z) =
-      depth-Span e with_to f (Some g) ∙ (λ i. const_nests x i then const_nests y i then const_nests z i) ∙ sym (nests-Span c with_to d (Some h))
+      depth-Span e with_to f (Some g) ∙ (λ i. const_nests x i followed_by const_nests y i followed_by const_nests z i) ∙ sym (nests-Span c with_to d (Some h))

@@ -28,9 +28,9 @@ use Rattle.zim_typed.specs.declared.statement.TLimit.{TLimit}
 use Rattle.zim_typed.specs.declared.statement.TReading.{TReading}
 use Rattle.zim_typed.specs.declared.statement.TDoing.{TDoing}
 use Rattle.zim_typed.specs.declared.statement.TPrinted.{TPrinted}
-use Rattle.zim_typed.specs.Scope.{Names, Scope, declared, takes}
+use Rattle.zim_typed.specs.Scope.{Names, Scope, kind_of_name, takes}
 use Rattle.zim_typed.specs.Constants.{one_const}
-use Rattle.zim_typed.specs.Statements.{IsBound, AreLimits, IsGiven, AreOptions, IsReading, AreEntries, AreRows, IsTable, IsBrackets, IsSet, IsParam, ArePrinted, IsDoing, IsShape, IsTyped, is_value, is_infinity, is_signed_infinity, is_chosen, no_limit, one_limit, not_given, is_given, no_option, one_option, is_reading, no_entry, one_entry, no_row, one_row, is_table, no_brackets, loop_brackets, set_brackets, set_value, set_read, set_family, set_for_each, sets_listed, param_value, param_read, param_for_each, params_listed, params_in_table, params_read, param_default, none_printed, value_printed, tuple_printed, do_print, do_check, do_forall, is_set, is_param, is_var, is_goal, is_subto, is_definition, is_do, is_typed}
+use Rattle.zim_typed.specs.Statements.{IsBound, AreLimits, IsGiven, AreOptions, IsReading, AreEntries, AreRows, IsTable, IsBrackets, IsSetSide, IsParam, ArePrinted, IsDoing, IsShape, IsTyped, is_value, is_infinity, is_signed_infinity, is_chosen, no_limit, one_limit, not_given, is_given, no_option, one_option, is_reading, no_entry, one_entry, no_row, one_row, is_table, no_brackets, loop_brackets, set_brackets, set_value, set_read, set_family, set_for_each, sets_listed, param_value, param_read, param_for_each, params_listed, params_in_table, params_read, param_default, none_printed, value_printed, tuple_printed, do_print, do_check, do_forall, is_set, is_param, is_var, is_goal, is_subto, is_definition, is_do, is_typed}
 use Rattle.zim_typed.specs.SuitsStatement.{SuitsBound, LimitsSuit, SuitsGiven, OptionsSuit, AtMostOnce, SuitsReading, EntriesSuit, RowsSuit, SuitsTable, SuitsSet, SuitsParam, SuitsBrackets, LimitsKept, PrintedSuit, SuitsDoing, SuitsShape, SuitsStatement, suits_value, suits_infinity, suits_signed_infinity, suits_chosen, suits_no_limit, suits_one_limit, suits_not_given, suits_given, suits_no_option, suits_one_option, suits_reading, suits_no_entry, suits_one_entry, suits_no_row, suits_one_row, suits_table, suits_set_value, suits_set_read, suits_family, suits_set_for_each, suits_sets_listed, suits_param_value, suits_param_read, suits_param_for_each, suits_params_listed, suits_params_in_table, suits_params_read, suits_default, suits_no_brackets, suits_loop_brackets, suits_set_brackets, suits_none_printed, suits_value_printed, suits_tuple_printed, suits_print, suits_check, suits_do_forall, suits_set, suits_param, suits_var, suits_goal, suits_subto, suits_definition, suits_declaration, suits_do}
 use Rattle.zim_typed.proofs.ConstantLemmas.{as_many, const_suits, consts_suit, tuple_suits, loop_suits}
 use Rattle.zim_typed.proofs.TermLemmas.{term_suits, con_suits}
@@ -87,7 +87,7 @@ table_suits : {scope : Scope} {names : Names} {table : Table} {t : TTable} → M
 table_suits (made_table head rows) (is_table (one_const c cs) (one_row items values rest)) =
     suits_table (consts_suit (one_const c cs)) (widened (as_many (one_const c cs)) (rows_suit rows (one_row items values rest)))
 
-set_suits : {scope : Scope} {b : Option Bracket} {s : SetSide} {tb : Option TBracket} {ts : TSetSide} → MadeSet b s → IsSet scope b s tb ts → SuitsSet scope tb ts
+set_suits : {scope : Scope} {b : Option Bracket} {s : SetSide} {tb : Option TBracket} {ts : TSetSide} → MadeSet b s → IsSetSide scope b s tb ts → SuitsSet scope tb ts
 set_suits made (set_value c) = suits_set_value (const_suits c)
 set_suits (made_set_read made) (set_read r) = suits_set_read (reading_suits made r)
 set_suits made (set_family p word is h given) = suits_family p is (subst (λ n. takes word n ≡ true) (as_many given) h) (consts_suit given)
@@ -141,6 +141,6 @@ shape_suits (made_goal maximize made) (is_goal m t) = suits_goal m (term_suits t
 shape_suits (made_subto made) (is_subto c) = suits_subto (con_suits c)
 shape_suits (made_definition word parameters is made) (is_definition w ps c) = suits_definition ps is (const_suits c)
 
-pub statement_suits : {scope : Scope} {stmt : Stmt} {typed : TStmt} → MadeStatement stmt → declared scope stmt.name ≡ None → IsTyped scope stmt typed → SuitsStatement scope typed
+pub statement_suits : {scope : Scope} {stmt : Stmt} {typed : TStmt} → MadeStatement stmt → kind_of_name scope stmt.name ≡ None → IsTyped scope stmt typed → SuitsStatement scope typed
 statement_suits (made_declaration p q name made) new (is_typed r s n what) = suits_declaration r s new (shape_suits made what)
 statement_suits (made_do p made) new (is_typed r s n (is_do d)) = suits_do r (doing_suits d)

@@ -9,7 +9,7 @@ use Rattle.zim_typed.specs.declared.constraint.Term.{Term}
 use Rattle.zim_typed.specs.declared.constraint.Cond.{Cond}
 use Rattle.zim_typed.specs.declared.constraint.Con.{Con}
 use Rattle.zim_typed.specs.declared.constant.Resolved.TheVariants as resolved
-use Rattle.zim_typed.specs.Scope.{Names, Scope, Use, Stands, Varies, Misused, is_local, declared, bare_declared, indexed_declared}
+use Rattle.zim_typed.specs.Scope.{Names, Scope, Use, Stands, Varies, Misused, is_local, kind_of_name, bare_declared, indexed_declared}
 use Rattle.zim_typed.specs.Terms.{or_join, IsTerm, AreTerms, AreFactors, IsCond, AreAnded, AreOred, IsCon, AreCons, term_known, term_variable, term_variable_at, term_parentheses, term_plus, term_minus, term_sum, term_product, term_multiple, term_sum_over, term_if, term_absolute, no_term, one_term, no_factor, one_factor, cond_known, cond_parentheses, cond_comparison, cond_not, cond_and, cond_or, no_anded, one_anded, no_ored, one_ored, con_parentheses, con_comparison, con_range, con_and, con_forall, con_if, con_if_with_else, con_vif, con_vif_with_else, no_con, one_con}
 use Rattle.zim_fault.specs.declared.tokens.Join.TheVariants as join
 use Rattle.zim_typed.specs.Suits.{SuitsTerm, TermsSuit, FactorsSuit, SuitsCond, JoinedSuit, SuitsCon, ConsSuit, suits_known_term, suits_variable, suits_variable_at, suits_term_sum, suits_term_product, suits_term_multiple, suits_minus, suits_sum_over, suits_term_if, suits_absolute, suits_no_term, suits_one_term, suits_no_factor, suits_one_factor, suits_known_condition, suits_compared, suits_chain, suits_negated, suits_none_joined, suits_one_joined, suits_constraint, suits_range, suits_all, suits_forall, suits_con_if, suits_con_vif, suits_no_otherwise, suits_otherwise, suits_no_con, suits_one_con}
@@ -28,9 +28,9 @@ varies_indexed false used h = h
 mutual
   pub term_suits : {scope : Scope} {names : Names} {e : Expr} {t : Term} → IsTerm scope names e t → SuitsTerm scope names t
   term_suits (term_known none c) = suits_known_term (const_suits c)
-  term_suits {scope} {names} (term_variable p name h) = suits_variable p name (varies (is_local names name) (bare_declared (declared scope name)) h)
+  term_suits {scope} {names} (term_variable p name h) = suits_variable p name (varies (is_local names name) (bare_declared (kind_of_name scope name)) h)
   term_suits {scope} {names} (term_variable_at p name h index) =
-      suits_variable_at p name (varies_indexed (is_local names name) (indexed_declared (declared scope name)) h) (consts_suit index)
+      suits_variable_at p name (varies_indexed (is_local names name) (indexed_declared (kind_of_name scope name)) h) (consts_suit index)
   term_suits (term_parentheses p has t) = term_suits t
   term_suits (term_plus p has t) = term_suits t
   term_suits (term_minus p has t) = suits_minus p (term_suits t)

@@ -15,7 +15,7 @@ use Rattle.zim_tree.specs.declared.expr.Body.{Body, Body-F, roll-Body, map-Body,
 use Rattle.zim_tree.specs.declared.expr.Body.TheVariants.{Empty, Members, Tuples, Those, Span, rolls-Empty, rolls-Members, rolls-Tuples, rolls-Those, rolls-Span}
 use Rattle.zim_tree.specs.Trees.{index_of}
 use Rattle.zim_typed.specs.Scope.{Scope}
-use Rattle.zim_typed.specs.Variables.{is_vabs, names_variable, one_of, given, expr_step, angle_step, index_step, body_step, has_variables, tuple_has_variables, index_has_variables, body_has_variables}
+use Rattle.zim_typed.specs.Variables.{is_vabs, names_variable, one_of, given, variables_in_expr, variables_in_angle, variables_in_index, variables_in_body, has_variables, tuple_has_variables, index_has_variables, body_has_variables}
 
 -- one of the values of a function on a list
 one_mapped : {A : Type 0} (has : A → Bool) (items : List A) → one_of (map has items) ≡ list_any has items
@@ -28,15 +28,15 @@ one_known has known tells is [] = refl
 one_known has known tells is (item ∷ items) = λ i. is item i || one_known has known tells is items i
 
 at_expr : (scope : Scope) (d : Expr-F Body Expr Angle Index) →
-    has_variables scope (roll-Expr d) ≡ expr_step scope (map-Expr Body Expr Angle Index Bool Bool Bool Bool (body_has_variables scope) (has_variables scope) (tuple_has_variables scope) (index_has_variables scope) d)
-at_expr scope = fold-roll-Expr Bool Bool Bool Bool body_step (expr_step scope) angle_step index_step
+    has_variables scope (roll-Expr d) ≡ variables_in_expr scope (map-Expr Body Expr Angle Index Bool Bool Bool Bool (body_has_variables scope) (has_variables scope) (tuple_has_variables scope) (index_has_variables scope) d)
+at_expr scope = fold-roll-Expr Bool Bool Bool Bool variables_in_body (variables_in_expr scope) variables_in_angle variables_in_index
 
 at_body : (scope : Scope) (d : Body-F Body Expr Angle Index) →
-    body_has_variables scope (roll-Body d) ≡ body_step (map-Body Body Expr Angle Index Bool Bool Bool Bool (body_has_variables scope) (has_variables scope) (tuple_has_variables scope) (index_has_variables scope) d)
-at_body scope = fold-roll-Body Bool Bool Bool Bool body_step (expr_step scope) angle_step index_step
+    body_has_variables scope (roll-Body d) ≡ variables_in_body (map-Body Body Expr Angle Index Bool Bool Bool Bool (body_has_variables scope) (has_variables scope) (tuple_has_variables scope) (index_has_variables scope) d)
+at_body scope = fold-roll-Body Bool Bool Bool Bool variables_in_body (variables_in_expr scope) variables_in_angle variables_in_index
 
 pub has-angle : (scope : Scope) (tuple : Angle) → tuple_has_variables scope tuple ≡ list_any (has_variables scope) (out-Angle tuple).items
-has-angle scope tuple = ap (tuple_has_variables scope) (sym (roll-out-Angle tuple)) ∙ fold-roll-Angle Bool Bool Bool Bool body_step (expr_step scope) angle_step index_step (out-Angle tuple)
+has-angle scope tuple = ap (tuple_has_variables scope) (sym (roll-out-Angle tuple)) ∙ fold-roll-Angle Bool Bool Bool Bool variables_in_body (variables_in_expr scope) variables_in_angle variables_in_index (out-Angle tuple)
     ∙ one_mapped (has_variables scope) (out-Angle tuple).items
 
 -- the condition of an index
@@ -141,8 +141,8 @@ has-Span scope from with_to to (Some by) = ap (body_has_variables scope) (sym (r
 
 index_parts : (scope : Scope) (place : Place) (tuple : Angle) (set : Expr) (cond : Option (Bool × Expr)) →
     index_has_variables scope (index_of place tuple set cond) ≡ (tuple_has_variables scope tuple || has_variables scope set || condition_varies scope cond)
-index_parts scope place tuple set None = fold-roll-Index Bool Bool Bool Bool body_step (expr_step scope) angle_step index_step (record { place = place; tuple = tuple; set = set; cond = None })
-index_parts scope place tuple set (Some c) = fold-roll-Index Bool Bool Bool Bool body_step (expr_step scope) angle_step index_step (record { place = place; tuple = tuple; set = set; cond = Some c })
+index_parts scope place tuple set None = fold-roll-Index Bool Bool Bool Bool variables_in_body (variables_in_expr scope) variables_in_angle variables_in_index (record { place = place; tuple = tuple; set = set; cond = None })
+index_parts scope place tuple set (Some c) = fold-roll-Index Bool Bool Bool Bool variables_in_body (variables_in_expr scope) variables_in_angle variables_in_index (record { place = place; tuple = tuple; set = set; cond = Some c })
 
 pub has-index : (scope : Scope) (index : Index) →
     index_has_variables scope index ≡ (tuple_has_variables scope (out-Index index).tuple || has_variables scope (out-Index index).set || condition_varies scope (out-Index index).cond)

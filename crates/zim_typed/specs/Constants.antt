@@ -7,7 +7,7 @@ use Rattle.zim_fault.specs.declared.tokens.Relation.{Relation}
 use Rattle.zim_fault.specs.declared.signs.Sign.{Sign}
 use Rattle.zim_fault.specs.declared.words.Word.{Word}
 use Rattle.zim_fault.specs.declared.words.Word.TheVariants.{WIndexset, WAbs, WSgn, WFloor, WCeil, WRound, WCard, WOrd, WLength, WSubstr, WMin, WMax}
-use Rattle.zim_decimal.specs.Token.{is_number}
+use Rattle.zim_decimal.specs.Token.{is_number_token}
 use Rattle.zim_tree.specs.declared.expr.Expr.{Expr}
 use Rattle.zim_tree.specs.declared.expr.Expr.TheVariants as tree
 use Rattle.zim_tree.specs.declared.expr.Angle.{Angle}
@@ -25,8 +25,8 @@ use Rattle.zim_typed.specs.declared.constant.TBody.{TBody}
 use Rattle.zim_typed.specs.declared.constant.TBody.TheVariants as body
 use Rattle.zim_typed.specs.declared.constant.Resolved.{Resolved}
 use Rattle.zim_typed.specs.declared.constant.Resolved.TheVariants as resolved
-use Rattle.zim_typed.specs.Trees.{angle_of, loop_of}
-use Rattle.zim_typed.specs.Scope.{Text, Names, Scope, Stands, bare, indexed, called, declared, is_indexed_set, takes}
+use Rattle.zim_typed.specs.Trees.{typed_angle, typed_loop}
+use Rattle.zim_typed.specs.Scope.{Text, Names, Scope, Stands, bare, indexed, called, kind_of_name, is_indexed_set, takes}
 use Rattle.zim_typed.specs.Pattern.{bound_name, binding}
 
 -- the functions that are words and stand among values: not `vabs`, which is a term, not `powerset` and `subsets`, which are a whole right side,
@@ -48,7 +48,7 @@ is_value_function _ = false
 mutual
   -- an expression is this constant
   pub data IsConst (scope : Scope) : Names → Expr → Const → Type 0 where
-    const_number : {names : Names} (p : Place) (digits : List ℕ) → IsTrue (is_number digits) → IsConst scope names (tree.Number p digits) (const.Number p digits)
+    const_number : {names : Names} (p : Place) (digits : List ℕ) → IsTrue (is_number_token digits) → IsConst scope names (tree.Number p digits) (const.Number p digits)
     const_text : {names : Names} (p : Place) (text : List ℕ) (double : Bool) → IsConst scope names (tree.Text p text double) (const.Text p text double)
     const_truth : {names : Names} (p : Place) (truth : Bool) → IsConst scope names (tree.Truth p truth) (const.Truth p truth)
     const_name : {names : Names} (p : Place) (name : Text) {r : Resolved} → bare scope names name ≡ Stands r →
@@ -59,7 +59,7 @@ mutual
         AreConsts scope names given cs → IsConst scope names (tree.Call p name given) (const.Call p name cs r)
     const_function : {names : Names} (p : Place) (word : Word) {given : List Expr} {cs : List Const} → is_value_function word ≡ true → takes word (length given) ≡ true →
         AreConsts scope names given cs → IsConst scope names (tree.Func p word given) (const.Func p word cs)
-    const_indexset : {names : Names} (p q : Place) (name : Text) → is_indexed_set (declared scope name) ≡ true →
+    const_indexset : {names : Names} (p q : Place) (name : Text) → is_indexed_set (kind_of_name scope name) ≡ true →
         IsConst scope names (tree.Func p WIndexset (tree.Name q name ∷ [])) (const.Func p WIndexset (const.Name q name resolved.Set ∷ []))
     const_projection : {names : Names} (p : Place) {set : Expr} {positions : Angle} {c : Const} {t : TAngle} → IsConst scope names set c → IsTuple scope names positions t →
         IsConst scope names (tree.Proj p set positions) (const.Proj p c t)
@@ -118,7 +118,7 @@ mutual
   -- a tuple is this one
   pub data IsTuple (scope : Scope) : Names → Angle → TAngle → Type 0 where
     is_tuple : {names : Names} (p : Place) {items : List Expr} {cs : List Const} → AreConsts scope names items cs →
-        IsTuple scope names (trees.angle_of p items) (angle_of p cs)
+        IsTuple scope names (trees.angle_of p items) (typed_angle p cs)
 
   -- tuples are these
   pub data AreTuples (scope : Scope) : Names → List Angle → List TAngle → Type 0 where
@@ -143,10 +143,10 @@ mutual
   pub data IsLoop (scope : Scope) : Names → Index → Loop → Names → Type 0 where
     is_loop : {names bound : Names} (p q : Place) {items : List Expr} {slots : List LoopSlot} {set : Expr} {c : Const} →
         AreSlots scope names [] items slots bound → IsConst scope names set c →
-        IsLoop scope names (trees.index_of p (trees.angle_of q items) set None) (loop_of p slots c None) (bound ++ names)
+        IsLoop scope names (trees.index_of p (trees.angle_of q items) set None) (typed_loop p slots c None) (bound ++ names)
     is_loop_with : {names bound : Names} (p q : Place) (bar : Bool) {items : List Expr} {slots : List LoopSlot} {set cond : Expr} {c d : Const} →
         AreSlots scope names [] items slots bound → IsConst scope names set c → IsConst scope (bound ++ names) cond d →
-        IsLoop scope names (trees.index_of p (trees.angle_of q items) set (Some (bar, cond))) (loop_of p slots c (Some d)) (bound ++ names)
+        IsLoop scope names (trees.index_of p (trees.angle_of q items) set (Some (bar, cond))) (typed_loop p slots c (Some d)) (bound ++ names)
 
   -- what stands in braces is this
   pub data IsBody (scope : Scope) : Names → Body → TBody → Type 0 where

@@ -33,8 +33,8 @@ const_step (Const-F.And first others) = first
 const_step (Const-F.Or first others) = first
 
 -- a tuple begins at its `<`
-abbrev pub angle_step : TAngle-F Place (Unit {0}) (Unit {0}) (Unit {0}) Place → Place
-angle_step tuple = tuple.place
+abbrev pub place_of_angle : TAngle-F Place (Unit {0}) (Unit {0}) (Unit {0}) Place → Place
+place_of_angle tuple = tuple.place
 
 -- an index doesn't keep where it begins
 abbrev pub loop_step : Loop-F Place (Unit {0}) (Unit {0}) (Unit {0}) Place → Unit {0}
@@ -45,9 +45,9 @@ abbrev pub slot_step : LoopSlot-F Place (Unit {0}) (Unit {0}) (Unit {0}) Place �
 slot_step component = tt
 
 -- what stands in braces may have no token
-abbrev pub body_step : TBody-F Place (Unit {0}) (Unit {0}) (Unit {0}) Place → Unit {0}
-body_step body = tt
+abbrev pub place_of_body : TBody-F Place (Unit {0}) (Unit {0}) (Unit {0}) Place → Unit {0}
+place_of_body body = tt
 
 -- the place of a constant's first token
-abbrev pub first_place : Const → Place
-first_place = fold-Const Place (Unit {0}) (Unit {0}) (Unit {0}) Place const_step slot_step body_step loop_step angle_step
+abbrev pub const_first_place : Const → Place
+const_first_place = fold-Const Place (Unit {0}) (Unit {0}) (Unit {0}) Place const_step slot_step place_of_body loop_step place_of_angle

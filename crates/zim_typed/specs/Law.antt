@@ -8,7 +8,7 @@ use Rattle.zim_typed.specs.declared.constraint.Term.{Term}
 use Rattle.zim_typed.specs.declared.constraint.Cond.{Cond}
 use Rattle.zim_typed.specs.declared.constraint.Con.{Con}
 use Rattle.zim_typed.specs.declared.statement.TStmt.{TStmt}
-use Rattle.zim_typed.specs.Scope.{Names, Scope, declared}
+use Rattle.zim_typed.specs.Scope.{Names, Scope, kind_of_name}
 use Rattle.zim_typed.specs.Constants.{IsConst}
 use Rattle.zim_typed.specs.Terms.{IsTerm, IsCond, IsCon}
 use Rattle.zim_typed.specs.Statements.{IsTyped}
@@ -35,7 +35,7 @@ ConstraintSuits = (scope : Scope) (names : Names) (e : Expr) (c : Con) → IsCon
 
 -- the typed statement that a statement is suits the scope, where the statement is made of its parts and its name is new
 abbrev pub StatementSuits : Type 0
-StatementSuits = (scope : Scope) (stmt : Stmt) (typed : TStmt) → MadeStatement stmt → declared scope stmt.name ≡ None → IsTyped scope stmt typed → SuitsStatement scope typed
+StatementSuits = (scope : Scope) (stmt : Stmt) (typed : TStmt) → MadeStatement stmt → kind_of_name scope stmt.name ≡ None → IsTyped scope stmt typed → SuitsStatement scope typed
 
 -- the constant that an expression is nests as the expression
 abbrev pub ConstantNests : Type 0

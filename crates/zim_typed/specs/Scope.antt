@@ -26,12 +26,12 @@ abbrev pub is_local : Names → Text → Bool
 is_local names name = list_any (pointwise nat_eq name) names
 
 -- what a name is declared to be, if it is declared
-abbrev pub declared : Scope → Text → Option Declared
-declared scope name = option_map (λ entry. entry.1) (find (λ entry. pointwise nat_eq name entry.0) scope)
+abbrev pub kind_of_name : Scope → Text → Option Declared
+kind_of_name scope name = option_map (λ entry. entry.1) (find (λ entry. pointwise nat_eq name entry.0) scope)
 
 -- whether a name is declared, or bound around a place
 abbrev pub is_known : Scope → Names → Text → Bool
-is_known scope names name = is_local names name || is_some (declared scope name)
+is_known scope names name = is_local names name || is_some (kind_of_name scope name)
 
 -- what a use of a name stands for: a value without variables, a variable, or nothing, as it isn't declared, or has other brackets or another
 -- number of arguments
@@ -43,7 +43,7 @@ pub data Use : Type 0 where
 
 -- a use of a name: one thing where it is bound around it, and else what its declaration says
 abbrev pub use_of : Names → Scope → (Option Declared → Use) → Use → Text → Use
-use_of names scope of_declared of_local name = if is_local names name then of_local else of_declared (declared scope name)
+use_of names scope of_declared of_local name = if is_local names name then of_local else of_declared (kind_of_name scope name)
 
 -- a bare name of a declaration
 abbrev pub bare_declared : Option Declared → Use

@@ -109,15 +109,15 @@ pub data IsBrackets (scope : Scope) : Option Bracket → Option TBracket → Nam
   set_brackets : {e : Expr} {c : Const} → IsConst scope [] e c → IsBrackets scope (Some (tree_bracket.Over e)) (Some (bracket.Over c)) []
 
 -- a set, its brackets and what it is declared to be, is this: behind empty brackets stands a call of `powerset` or `subsets`
-pub data IsSet (scope : Scope) : Option Bracket → SetSide → Option TBracket → TSetSide → Type 0 where
-  set_value : {e : Expr} {c : Const} → IsConst scope [] e c → IsSet scope None (tree_set.Value e) None (set_side.Value c)
-  set_read : {r : Reading} {t : TReading} → IsReading scope [] r t → IsSet scope None (tree_set.Read r) None (set_side.Read t)
+pub data IsSetSide (scope : Scope) : Option Bracket → SetSide → Option TBracket → TSetSide → Type 0 where
+  set_value : {e : Expr} {c : Const} → IsConst scope [] e c → IsSetSide scope None (tree_set.Value e) None (set_side.Value c)
+  set_read : {r : Reading} {t : TReading} → IsReading scope [] r t → IsSetSide scope None (tree_set.Read r) None (set_side.Read t)
   set_family : (p : Place) (word : Word) {given : List Expr} {cs : List Const} → word_class word ≡ class.Family → takes word (length given) ≡ true →
-      AreConsts scope [] given cs → IsSet scope (Some tree_bracket.Empty) (tree_set.Value (tree.Func p word given)) (Some bracket.Empty) (set_side.Value (const.Func p word cs))
+      AreConsts scope [] given cs → IsSetSide scope (Some tree_bracket.Empty) (tree_set.Value (tree.Func p word given)) (Some bracket.Empty) (set_side.Value (const.Func p word cs))
   set_for_each : {inner : Names} {index : Index} {e : Expr} {l : Loop} {c : Const} → IsLoop scope [] index l inner → IsConst scope inner e c →
-      IsSet scope (Some (tree_bracket.Loop index)) (tree_set.Value e) (Some (bracket.Loop l)) (set_side.Value c)
+      IsSetSide scope (Some (tree_bracket.Loop index)) (tree_set.Value e) (Some (bracket.Loop l)) (set_side.Value c)
   sets_listed : {over : Expr} {entries : List (Angle × Expr)} {c : Const} {cs : List (TAngle × Const)} → IsConst scope [] over c → AreEntries scope [] entries cs →
-      IsSet scope (Some (tree_bracket.Over over)) (tree_set.Entries entries) (Some (bracket.Over c)) (set_side.Entries cs)
+      IsSetSide scope (Some (tree_bracket.Over over)) (tree_set.Entries entries) (Some (bracket.Over c)) (set_side.Entries cs)
 
 -- a parameter, its brackets and what it is declared to be, is this
 pub data IsParam (scope : Scope) : Option Bracket → ParSide → Option TBracket → TParSide → Type 0 where
@@ -155,7 +155,7 @@ pub data IsDoing (scope : Scope) : Names → Doing → TDoing → Type 0 where
 
 -- what a statement says of its name is this
 pub data IsShape (scope : Scope) : Shape → TShape → Type 0 where
-  is_set : {brackets : Option Bracket} {side : SetSide} {b : Option TBracket} {s : TSetSide} → IsSet scope brackets side b s →
+  is_set : {brackets : Option Bracket} {side : SetSide} {b : Option TBracket} {s : TSetSide} → IsSetSide scope brackets side b s →
       IsShape scope (tree_shape.Set brackets side) (shape.Set b s)
   is_param : {brackets : Option Bracket} {side : ParSide} {b : Option TBracket} {s : TParSide} → IsParam scope brackets side b s →
       IsShape scope (tree_shape.Param brackets side) (shape.Param b s)

@@ -8,7 +8,7 @@ use Rattle.zim_fault.specs.declared.tokens.Join.{Join}
 use Rattle.zim_fault.specs.declared.signs.Sign.{Sign}
 use Rattle.zim_fault.specs.declared.words.Word.{Word}
 use Rattle.zim_fault.specs.declared.words.Word.TheVariants.{WIndexset}
-use Rattle.zim_decimal.specs.Token.{is_number}
+use Rattle.zim_decimal.specs.Token.{is_number_token}
 use Rattle.zim_typed.specs.declared.constant.Const.{Const}
 use Rattle.zim_typed.specs.declared.constant.Const.TheVariants as const
 use Rattle.zim_typed.specs.declared.constant.TAngle.{TAngle}
@@ -25,27 +25,27 @@ use Rattle.zim_typed.specs.declared.constraint.Cond.{Cond}
 use Rattle.zim_typed.specs.declared.constraint.Cond.TheVariants as cond
 use Rattle.zim_typed.specs.declared.constraint.Con.{Con}
 use Rattle.zim_typed.specs.declared.constraint.Con.TheVariants as con
-use Rattle.zim_typed.specs.Trees.{angle_of, loop_of}
-use Rattle.zim_typed.specs.Scope.{Text, Names, Scope, Stands, Varies, is_local, declared, bare_declared, indexed_declared, called_declared, is_indexed_set, takes}
+use Rattle.zim_typed.specs.Trees.{typed_angle, typed_loop}
+use Rattle.zim_typed.specs.Scope.{Text, Names, Scope, Stands, Varies, is_local, kind_of_name, bare_declared, indexed_declared, called_declared, is_indexed_set, takes}
 use Rattle.zim_typed.specs.Constants.{is_value_function}
 use Rattle.zim_typed.specs.Terms.{may_constrain, may_enclose}
 
 mutual
   -- a constant that suits a scope and names
   pub data SuitsConst (scope : Scope) : Names → Const → Type 0 where
-    suits_number : {names : Names} (p : Place) {digits : List ℕ} → IsTrue (is_number digits) → SuitsConst scope names (const.Number p digits)
+    suits_number : {names : Names} (p : Place) {digits : List ℕ} → IsTrue (is_number_token digits) → SuitsConst scope names (const.Number p digits)
     suits_text : {names : Names} (p : Place) (text : List ℕ) (double : Bool) → SuitsConst scope names (const.Text p text double)
     suits_truth : {names : Names} (p : Place) (truth : Bool) → SuitsConst scope names (const.Truth p truth)
     suits_local : {names : Names} (p : Place) (name : Text) → is_local names name ≡ true → SuitsConst scope names (const.Name p name resolved.Local)
-    suits_name : {names : Names} (p : Place) (name : Text) {r : Resolved} → bare_declared (declared scope name) ≡ Stands r →
+    suits_name : {names : Names} (p : Place) (name : Text) {r : Resolved} → bare_declared (kind_of_name scope name) ≡ Stands r →
         SuitsConst scope names (const.Name p name r)
-    suits_item : {names : Names} (p : Place) (name : Text) {r : Resolved} {index : List Const} → indexed_declared (declared scope name) ≡ Stands r →
+    suits_item : {names : Names} (p : Place) (name : Text) {r : Resolved} {index : List Const} → indexed_declared (kind_of_name scope name) ≡ Stands r →
         ConstsSuit scope names index → SuitsConst scope names (const.Item p name index r)
-    suits_call : {names : Names} (p : Place) (name : Text) {r : Resolved} {given : List Const} → called_declared (length given) (declared scope name) ≡ Stands r →
+    suits_call : {names : Names} (p : Place) (name : Text) {r : Resolved} {given : List Const} → called_declared (length given) (kind_of_name scope name) ≡ Stands r →
         ConstsSuit scope names given → SuitsConst scope names (const.Call p name given r)
     suits_function : {names : Names} (p : Place) {word : Word} {given : List Const} → is_value_function word ≡ true → takes word (length given) ≡ true →
         ConstsSuit scope names given → SuitsConst scope names (const.Func p word given)
-    suits_indexset : {names : Names} (p q : Place) (name : Text) → is_indexed_set (declared scope name) ≡ true →
+    suits_indexset : {names : Names} (p q : Place) (name : Text) → is_indexed_set (kind_of_name scope name) ≡ true →
         SuitsConst scope names (const.Func p WIndexset (const.Name q name resolved.Set ∷ []))
     suits_projection : {names : Names} (p : Place) {set : Const} {positions : TAngle} → SuitsConst scope names set → SuitsTuple scope names positions →
         SuitsConst scope names (const.Proj p set positions)
@@ -98,7 +98,7 @@ mutual
 
   -- a tuple that suits
   pub data SuitsTuple (scope : Scope) : Names → TAngle → Type 0 where
-    suits_tuple : {names : Names} (p : Place) {items : List Const} → ConstsSuit scope names items → SuitsTuple scope names (angle_of p items)
+    suits_tuple : {names : Names} (p : Place) {items : List Const} → ConstsSuit scope names items → SuitsTuple scope names (typed_angle p items)
 
   -- tuples that suit
   pub data TuplesSuit (scope : Scope) : Names → List TAngle → Type 0 where
@@ -119,9 +119,9 @@ mutual
   -- an index that suits, and the names that are bound behind it
   pub data SuitsLoop (scope : Scope) : Names → Loop → Names → Type 0 where
     suits_loop : {names bound : Names} (p : Place) {slots : List LoopSlot} {set : Const} → SlotsSuit scope names [] slots bound →
-        SuitsConst scope names set → SuitsLoop scope names (loop_of p slots set None) (bound ++ names)
+        SuitsConst scope names set → SuitsLoop scope names (typed_loop p slots set None) (bound ++ names)
     suits_loop_with : {names bound : Names} (p : Place) {slots : List LoopSlot} {set cond : Const} → SlotsSuit scope names [] slots bound →
-        SuitsConst scope names set → SuitsConst scope (bound ++ names) cond → SuitsLoop scope names (loop_of p slots set (Some cond)) (bound ++ names)
+        SuitsConst scope names set → SuitsConst scope (bound ++ names) cond → SuitsLoop scope names (typed_loop p slots set (Some cond)) (bound ++ names)
 
   -- what stands in braces and suits
   pub data SuitsBody (scope : Scope) : Names → TBody → Type 0 where
@@ -138,8 +138,8 @@ mutual
   -- a term that suits a scope and names
   pub data SuitsTerm (scope : Scope) : Names → Term → Type 0 where
     suits_known_term : {names : Names} {c : Const} → SuitsConst scope names c → SuitsTerm scope names (term.Known c)
-    suits_variable : {names : Names} (p : Place) (name : Text) → bare_declared (declared scope name) ≡ Varies → SuitsTerm scope names (term.Column p name [])
-    suits_variable_at : {names : Names} (p : Place) (name : Text) {first : Const} {others : List Const} → indexed_declared (declared scope name) ≡ Varies →
+    suits_variable : {names : Names} (p : Place) (name : Text) → bare_declared (kind_of_name scope name) ≡ Varies → SuitsTerm scope names (term.Column p name [])
+    suits_variable_at : {names : Names} (p : Place) (name : Text) {first : Const} {others : List Const} → indexed_declared (kind_of_name scope name) ≡ Varies →
         ConstsSuit scope names (first ∷ others) → SuitsTerm scope names (term.Column p name (first ∷ others))
     suits_term_sum : {names : Names} {first : Term} {others : List (Place × Bool × Term)} → SuitsTerm scope names first → TermsSuit scope names others →
         SuitsTerm scope names (term.Sum first others)

@@ -30,7 +30,7 @@ use Rattle.zim_typed.specs.declared.statement.TDoing.{TDoing}
 use Rattle.zim_typed.specs.declared.statement.TDoing.TheVariants as doing
 use Rattle.zim_typed.specs.declared.statement.TPrinted.{TPrinted}
 use Rattle.zim_typed.specs.declared.statement.TPrinted.TheVariants as printed
-use Rattle.zim_typed.specs.Scope.{Text, Names, Scope, declared, takes}
+use Rattle.zim_typed.specs.Scope.{Text, Names, Scope, kind_of_name, takes}
 use Rattle.zim_typed.specs.Suits.{SuitsConst, ConstsSuit, SuitsTuple, SuitsLoop, SuitsTerm, SuitsCon}
 
 -- a bound of a variable that suits: `infinity` is one with or without a sign, and so is a branch of an `if` that is a bound
@@ -154,7 +154,7 @@ pub data SuitsShape (scope : Scope) : TShape → Type 0 where
 
 -- a statement that suits a scope
 pub data SuitsStatement (scope : Scope) : TStmt → Type 0 where
-  suits_declaration : (p q : Place) {name : Text} {what : TShape} → declared scope name ≡ None → SuitsShape scope what →
+  suits_declaration : (p q : Place) {name : Text} {what : TShape} → kind_of_name scope name ≡ None → SuitsShape scope what →
       SuitsStatement scope (record { first = p; at = q; name = name; shape = what })
   suits_do : (p : Place) {inside : TDoing} → SuitsDoing scope [] inside →
       SuitsStatement scope (record { first = p; at = p; name = []; shape = shape.Do inside })

@@ -54,9 +54,9 @@ or_join false = join.Or
 or_join true = join.Xor
 
 -- the operands of a product up to some place: one is itself, and more are a product
-abbrev pub product_of : Expr → List (Place × Token × Expr) → Expr
-product_of first [] = first
-product_of first (other ∷ others) = tree.Times first (other ∷ others)
+abbrev pub product_up_to : Expr → List (Place × Token × Expr) → Expr
+product_up_to first [] = first
+product_up_to first (other ∷ others) = tree.Times first (other ∷ others)
 
 mutual
   -- an expression is this term
@@ -79,7 +79,7 @@ mutual
         has_variables scope first ≡ true → IsTerm scope names first t → AreFactors scope names others fs →
         IsTerm scope names (tree.Times first others) (term.Product None t fs)
     term_multiple : {names : Names} (p : Place) (first e : Expr) (before behind : List (Place × Token × Expr)) {c : Const} {t : Term} {fs : List (Place × Bool × Const)} →
-        has_variables scope (product_of first before) ≡ false → IsConst scope names (product_of first before) c →
+        has_variables scope (product_up_to first before) ≡ false → IsConst scope names (product_up_to first before) c →
         has_variables scope e ≡ true → IsTerm scope names e t → AreFactors scope names behind fs →
         IsTerm scope names (tree.Times first (before ++ (p, multiplying false, e) ∷ behind)) (term.Product (Some (c, p)) t fs)
     term_sum_over : {names inner : Names} (p : Place) (with_do : Bool) {index : Index} {e : Expr} {l : Loop} {t : Term} →

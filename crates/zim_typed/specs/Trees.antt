@@ -7,9 +7,9 @@ use Rattle.zim_typed.specs.declared.constant.Loop.{Loop, roll-Loop}
 use Rattle.zim_typed.specs.declared.constant.LoopSlot.{LoopSlot}
 
 -- a tuple, with the place of its `<`
-abbrev pub angle_of : Place → List Const → TAngle
-angle_of place items = roll-TAngle (record { place = place; items = items })
+abbrev pub typed_angle : Place → List Const → TAngle
+typed_angle place items = roll-TAngle (record { place = place; items = items })
 
 -- an index, with the place of its `in`
-abbrev pub loop_of : Place → List LoopSlot → Const → Option Const → Loop
-loop_of place slots set cond = roll-Loop (record { place = place; slots = slots; set = set; cond = cond })
+abbrev pub typed_loop : Place → List LoopSlot → Const → Option Const → Loop
+typed_loop place slots set cond = roll-Loop (record { place = place; slots = slots; set = set; cond = cond })

@@ -14,15 +14,15 @@ use Rattle.zim_typed.specs.declared.constraint.Term.TheVariants as term
 use Rattle.zim_typed.specs.declared.constraint.Con.TheVariants as con
 use Rattle.zim_typed.specs.declared.scope.Declared.TheVariants.{Set, Variable}
 use Rattle.zim_typed.specs.declared.statement.TShape.TheVariants as shape
-use Rattle.zim_typed.specs.Trees.{loop_of}
+use Rattle.zim_typed.specs.Trees.{typed_loop}
 use Rattle.zim_typed.specs.Scope.{Text, Scope}
 use Rattle.zim_typed.specs.Terms.{IsTerm, IsCon, multiplying}
 use Rattle.zim_typed.specs.Constants.{IsLoop}
 use Rattle.zim_typed.specs.Statements.{IsBound, IsShape}
 
 -- `1`, as it is written
-abbrev pub one : Text
-one = 49 ∷ []
+abbrev pub one_text : Text
+one_text = 49 ∷ []
 
 -- `2`
 abbrev pub two : Text
@@ -63,19 +63,19 @@ QuotientsMultiply =
 abbrev pub RepeatedNamesAreBoundOnce : Type 0
 RepeatedNamesAreBoundOnce =
     (p q r s t : Place) → IsLoop with_set [] (trees.index_of p (trees.angle_of q (tree.Name r i ∷ tree.Name s i ∷ [])) (tree.Name t a_set) None)
-    (loop_of p (slot.Free i ∷ slot.Again 0 ∷ []) (const.Name t a_set resolved.Set) None) (i ∷ [])
+    (typed_loop p (slot.Free i ∷ slot.Again 0 ∷ []) (const.Name t a_set resolved.Set) None) (i ∷ [])
 
 -- `1 <= x <= 2` is a range
 abbrev pub ChainsAreRanges : Type 0
 ChainsAreRanges =
-    (p q r s t : Place) → IsCon with_variable [] (tree.Compare (tree.Number p one) ((q, AtMost, tree.Name r x) ∷ (s, AtMost, tree.Number t two) ∷ []))
-    (con.Range q AtMost (const.Number p one) (term.Column r x []) (const.Number t two))
+    (p q r s t : Place) → IsCon with_variable [] (tree.Compare (tree.Number p one_text) ((q, AtMost, tree.Name r x) ∷ (s, AtMost, tree.Number t two) ∷ []))
+    (con.Range q AtMost (const.Number p one_text) (term.Column r x []) (const.Number t two))
 
 -- `if true then 1 else infinity end` is a bound
 abbrev pub BoundsMayPickInfinity : Type 0
 BoundsMayPickInfinity =
-    (p q r s : Place) → IsBound [] [] (tree.If p false (tree.Truth q true) (tree.Number r one) (Some (tree.Infinity s)))
-    (const.If p (const.Truth q true) (const.Number r one) (const.Infinity s))
+    (p q r s : Place) → IsBound [] [] (tree.If p false (tree.Truth q true) (tree.Number r one_text) (Some (tree.Infinity s)))
+    (const.If p (const.Truth q true) (const.Number r one_text) (const.Infinity s))
 
 -- the body of `defnumb f(i) := i;` is its parameter
 abbrev pub BodiesNameParameters : Type 0

@@ -7,7 +7,7 @@ use zim_fault::Place;
 impl Const {
     /// The place of the first token, which for an operator is that of its left operand.
     pub fn first_place(&self) -> Place
-        ensures { result ≡ spec.first_place self.now }
+        ensures { result ≡ spec.const_first_place self.now }
     {
         match self {
             Const::Number(place, _)
