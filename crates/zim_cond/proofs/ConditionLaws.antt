@@ -8,7 +8,7 @@ use Rattle.zim_fault.specs.declared.faults.Place.{Place}
 use Rattle.zim_fault.specs.declared.tokens.Join.{Join}
 use Rattle.zim_fault.specs.declared.tokens.Relation.{Relation}
 use Rattle.zim_rational.specs.Rational.{Rational}
-use Rattle.zim_formula.specs.Ground.{joined, chain_from, condition_step, condition_holds, related, term_number}
+use Rattle.zim_formula.specs.Ground.{joined_truths, chain_from, condition_step, condition_holds, related, term_number}
 use Rattle.zim_formula.specs.GroundRules.{is_term_over, joined_hold, condition_rule, is_condition_over}
 use Rattle.zim_formula.specs.declared.ground.GTerm.{GTerm}
 use Rattle.zim_formula.specs.declared.ground.GCond.{GCond, GCond-F, roll-GCond, map-GCond, fold-GCond, fold-roll-GCond, ind-GCond}
@@ -87,7 +87,7 @@ chain_makes base before source (o ∷ os) f p s final more first over h =
     let more_made : Extends made.1 base = extends_further base s made.1 second.widens.extends more in
     let grown : length s.columns ≤ length made.1.columns = let e : length made.1.columns ≡ length s.columns + length second.widens.extends.columns.0 = ap length second.widens.extends.columns.1 ∙ length-append s.columns second.widens.extends.columns.0 in omega arith in
     let low : p.column ≤ length s.columns = first.in_columns in
-    let both : List Rational → Bool = λ v. joined o.1 (f v) (g v) in
+    let both : List Rational → Bool = λ v. joined_truths o.1 (f v) (g v) in
     let third : LiteralMade base made.1 both next.0 next.1 =
     join_makes base made.1 (from_place source.statement o.0) o.1 f g p made.0 next.0 next.1 second.valid more_made
     first.from_one (omega arith) (stays base before s made.1 f p first more second.widens.extends)

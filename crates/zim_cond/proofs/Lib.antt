@@ -1,2 +1,5 @@
 pub mod LiteralLaws
 pub mod ConditionLaws
+pub mod CompareLaws
+pub mod LeafLaws
+pub mod CompareLeafLaws

@@ -12,7 +12,7 @@ use Rattle.zim_rational.specs.Rational.{Rational, zero, one, plus, minus, negate
 use Rattle.zim_rational.proofs.Ring.{minus_self, minus_zero, minus_is, negate_minus, plus_comm, minus_plus}
 use Rattle.zim_linear.specs.Forms.{LinearForm, number_at}
 use Rattle.zim_linear.specs.Ends.{unbounded}
-use Rattle.zim_formula.specs.Ground.{joined}
+use Rattle.zim_formula.specs.Ground.{joined_truths}
 use Rattle.zim_forms.specs.Algebra.{◌⊕◌, ◌⊖◌, ◌⊙◌, known, the}
 use Rattle.zim_forms.proofs.AlgebraLaws.{number_the, number_known, number_difference}
 use Rattle.zim_forms.proofs.OverLaws.{IsOver, over_sum, over_difference, over_multiple, over_the, over_known, over_more}
@@ -23,7 +23,7 @@ use Rattle.zim_rows.specs.declared.rows.Sense.TheVariants as sense
 use Rattle.zim_rows.specs.System.{LinearSystem, IsColumn, IsGivenRow, Extends, column_of, column_at}
 use Rattle.zim_rows.specs.Points.{IsSystemPoint, KeepConstraints, assigned, given_constraint, first_numbers}
 use Rattle.zim_rows.specs.Covered.{IsCovered}
-use Rattle.zim_rows.specs.Steps.{Step, Encoding, with_step, placed, binary, ◌then◌, gives}
+use Rattle.zim_rows.specs.Steps.{Step, Encoding, with_step, step_placed, binary, ◌then◌, gives}
 use Rattle.zim_rows.specs.Extending.{IsValid, Widens, HasShortSides}
 use Rattle.zim_rows.proofs.StepLaws.{each_has_number, placed_is}
 use Rattle.zim_rows.proofs.CutLaws.{point_cut}
@@ -77,7 +77,7 @@ stays base before middle after truth l made under more q point =
 last_column : (columns : List Column) → column_at (columns ++ binary ∷ []) (length columns + 1) ≡ binary
 last_column columns = get_or_push columns binary (column_of false unbounded) (length columns + 1 - 1) (omega arith)
 
-pub column_made : (base before : LinearSystem) (truth : List Rational → Bool) (place : Place) (rows : List GivenRow) (after : LinearSystem) → IsValid before → Extends before base → All (IsGivenRow (length before.columns + 1)) rows → placed place before (binary_step rows) ≡ Ok after
+pub column_made : (base before : LinearSystem) (truth : List Rational → Bool) (place : Place) (rows : List GivenRow) (after : LinearSystem) → IsValid before → Extends before base → All (IsGivenRow (length before.columns + 1)) rows → step_placed place before (binary_step rows) ≡ Ok after
     → ((p : List Rational) (w : Rational) → IsSystemPoint before p → IsBinary w → KeepConstraints (assigned (p ++ w ∷ [])) (map given_constraint rows) ↔ ((w ≡ one) ↔ IsTrue (truth (first_numbers base p))))
     → LiteralMade base before truth (literal (next_number before) true) (with_step before (binary_step rows))
 column_made base before truth place rows after is over each h says =
@@ -135,14 +135,14 @@ join_rows_are source Xor n p q r f g h =
 pub join_makes : (base before : LinearSystem) (source : RowFrom) (join : Join) (f g : List Rational → Bool) (p q l : Literal) (after : LinearSystem) → IsValid before → Extends before base
     → 0 < p.column → p.column ≤ length before.columns → ((v : List Rational) → IsSystemPoint before v → literal_at v p ≡ number_of (f (first_numbers base v)))
     → 0 < q.column → q.column ≤ length before.columns → ((v : List Rational) → IsSystemPoint before v → literal_at v q ≡ number_of (g (first_numbers base v)))
-    → joined_column source join p q before ≡ Ok (l, after) → LiteralMade base before (λ v. joined join (f v) (g v)) l after
+    → joined_column source join p q before ≡ Ok (l, after) → LiteralMade base before (λ v. joined_truths join (f v) (g v)) l after
 unfolding joined_column with_binary
 join_makes base before source join f g p q l after valid over p_some p_few p_tells q_some q_few q_tells h =
     let n : ℕ = length before.columns in
     let b : ℕ = next_number before in
     let rows : List GivenRow = join_rows source join (is p) (is q) (the b) in
-    let (made, made_is, last) = bind_gave (placed source.place before (binary_step rows) >>= λ later. Ok (b, later)) (λ m. Ok (literal m.0 true, m.1)) (l, after) h in
-    let (later, later_is, pair) = bind_gave (placed source.place before (binary_step rows)) (λ m. Ok (b, m)) made made_is in
+    let (made, made_is, last) = bind_gave (step_placed source.place before (binary_step rows) >>= λ later. Ok (b, later)) (λ m. Ok (literal m.0 true, m.1)) (l, after) h in
+    let (later, later_is, pair) = bind_gave (step_placed source.place before (binary_step rows)) (λ m. Ok (b, m)) made made_is in
     let (l_is, after_is) = pair_parts (literal made.0 true) l made.1 after last in
     let both : ◌≡◌ {A = ℕ × LinearSystem} (b, later) made = cc in
     let placed_there = placed_is source.place before later (binary_step rows) later_is in
@@ -153,16 +153,16 @@ join_makes base before source join f g p q l after valid over p_some p_few p_tel
     λ v w point.
     let size = each_has_number before.columns v point.columns in
     number_the (assigned (v ++ w ∷ [])) b ∙ get_or_push v w zero (n + 1 - 1) (omega arith) in
-    let all : LiteralMade base before (λ v. joined join (f v) (g v)) (literal b true) (with_step before (binary_step rows)) =
-    column_made base before (λ v. joined join (f v) (g v)) source.place rows later valid over
+    let all : LiteralMade base before (λ v. joined_truths join (f v) (g v)) (literal b true) (with_step before (binary_step rows)) =
+    column_made base before (λ v. joined_truths join (f v) (g v)) source.place rows later valid over
     (join_rows_are source join (n + 1) (is p) (is q) (the b) (form_over (n + 1) p.column p.positive p_some (omega arith)) (form_over (n + 1) q.column q.positive q_some (omega arith)) (over_the (n + 1) b (omega arith) (omega arith)))
     later_is
     (λ v w point two.
     let e = new_is v w point in
     let kept = join_kept source join (assigned (v ++ w ∷ [])) (is p) (is q) (the b) (f (first_numbers base v)) (g (first_numbers base v)) (subst IsBinary (sym e) two) (told_later v w p f point p_some p_few p_tells) (told_later v w q g point q_some q_few q_tells) in
-    subst (λ (m : Rational). KeepConstraints (assigned (v ++ w ∷ [])) (map given_constraint rows) ↔ ((m ≡ one) ↔ IsTrue (joined join (f (first_numbers base v)) (g (first_numbers base v))))) e kept) in
-    subst (λ (k : Literal). LiteralMade base before (λ v. joined join (f v) (g v)) k after) (ap (λ (m : ℕ × LinearSystem). literal m.0 true) both ∙ l_is)
-    (subst (λ (m : LinearSystem). LiteralMade base before (λ v. joined join (f v) (g v)) (literal b true) m) (sym placed_there ∙ ap (λ (m : ℕ × LinearSystem). m.1) both ∙ after_is) all)
+    subst (λ (m : Rational). KeepConstraints (assigned (v ++ w ∷ [])) (map given_constraint rows) ↔ ((m ≡ one) ↔ IsTrue (joined_truths join (f (first_numbers base v)) (g (first_numbers base v))))) e kept) in
+    subst (λ (k : Literal). LiteralMade base before (λ v. joined_truths join (f v) (g v)) k after) (ap (λ (m : ℕ × LinearSystem). literal m.0 true) both ∙ l_is)
+    (subst (λ (m : LinearSystem). LiteralMade base before (λ v. joined_truths join (f v) (g v)) (literal b true) m) (sym placed_there ∙ ap (λ (m : ℕ × LinearSystem). m.1) both ∙ after_is) all)
 
 -- ---- truth columns
 
@@ -187,10 +187,10 @@ unfolding truth_column
 truth_makes base before source c t truth b after valid over whole form_over ranges says h =
     let n : ℕ = length before.columns in
     let (step, step_is, rest) = bind_gave (past_at source.place (truth_step source t c (next_number before))) _ (b, after) h in
-    let (later, later_is, pair) = bind_gave (placed source.place before step) _ (b, after) rest in
+    let (later, later_is, pair) = bind_gave (step_placed source.place before step) _ (b, after) rest in
     let (b_is, after_is) = pair_parts (next_number before) b later after pair in
     let made : step ≡ truth_of source t c (n + 1) = truth_gave source t c (n + 1) step (past_gave source.place _ step step_is) in
-    let there : placed source.place before (truth_of source t c (n + 1)) ≡ Ok later = ap (placed source.place before) (sym made) ∙ later_is in
+    let there : step_placed source.place before (truth_of source t c (n + 1)) ≡ Ok later = ap (step_placed source.place before) (sym made) ∙ later_is in
     let rows : List GivenRow = (truth_of source t c (n + 1)).rows in
     let all : LiteralMade base before truth (literal (next_number before) true) (with_step before (binary_step rows)) =
     column_made base before truth source.place rows later valid over (truth_rows_are source t c n form_over) there

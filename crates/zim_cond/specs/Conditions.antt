@@ -31,13 +31,13 @@ equal_column source t =
     with_binary source.place (equal_rows source g l)
 
 -- The literal of a comparison of T with 0.
-unfoldable pub compared : RowFrom → Relation → Ranged → Encoding Literal
-compared source AtLeast t = truth_column source zero t then λ b. gives (literal b true)
-compared source GreaterThan t = truth_column source one t then λ b. gives (literal b true)
-compared source LessThan t = truth_column source zero t then λ b. gives (literal b false)
-compared source AtMost t = truth_column source one t then λ b. gives (literal b false)
-compared source EqualTo t = equal_column source t then λ e. gives (literal e true)
-compared source NotEqualTo t = equal_column source t then λ e. gives (literal e false)
+unfoldable pub comparison_literal : RowFrom → Relation → Ranged → Encoding Literal
+comparison_literal source AtLeast t = truth_column source zero t then λ b. gives (literal b true)
+comparison_literal source GreaterThan t = truth_column source one t then λ b. gives (literal b true)
+comparison_literal source LessThan t = truth_column source zero t then λ b. gives (literal b false)
+comparison_literal source AtMost t = truth_column source one t then λ b. gives (literal b false)
+comparison_literal source EqualTo t = equal_column source t then λ e. gives (literal e true)
+comparison_literal source NotEqualTo t = equal_column source t then λ e. gives (literal e false)
 
 -- The difference of two terms: the form of the left one, that of the right one, and the second taken from the first at the place.
 abbrev pub difference_of : ℕ → Place → GTerm → GTerm → Encoding LinearForm
@@ -49,7 +49,7 @@ difference_of statement place left right =
 -- The literal of a comparison of a form with 0, by the form's least whole multiple and its ends.
 abbrev pub compared_form : RowFrom → Relation → LinearForm → Encoding Literal
 compared_form source relation form system =
-    ranged_at source.place form system.columns >>= λ t. compared source relation t system
+    ranged_at source.place form system.columns >>= λ t. comparison_literal source relation t system
 
 -- A literal so far, and the system after what was made for it.
 abbrev pub Joined : Type 0

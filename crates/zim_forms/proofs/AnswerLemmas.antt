@@ -5,7 +5,7 @@ use Rattle.zim_rational.proofs.Ring.{minus_is}
 use Rattle.zim_fraction.specs.declared.fault.Past.{Past}
 use Rattle.zim_linear.specs.Forms.{Term, LinearForm, AreTerms, AreColumns, number_at}
 use Rattle.zim_linear.specs.Answers.{FormAnswer}
-use Rattle.zim_linear.specs.Sums.{IsSumWithin, IsSumOf, IsDifferenceWithin, IsDifferenceOf, negated_terms, negated_form}
+use Rattle.zim_linear.specs.Sums.{IsSumWithin, IsSumOf, AddedAnswer, IsDifferenceWithin, IsDifferenceOf, negated_terms, negated_form}
 use Rattle.zim_linear.specs.Multiples.{IsMultipleWithin, IsMultipleOf}
 use Rattle.zim_linear.specs.Ends.{EndsAnswer}
 use Rattle.zim_linear.specs.declared.faults.LinFault.{LinFault}
@@ -13,8 +13,9 @@ use Rattle.zim_linear.specs.declared.faults.LinFault.TheVariants.{Past as PastFo
 use Rattle.zim_linear.specs.declared.sides.Sides.{Sides}
 use Rattle.zim_linear.proofs.NegationLaws.{number_negated}
 use Rattle.zim_answer.specs.Answer.{◌>>=◌}
+use Rattle.zim_answer.specs.Gives.{Gives}
 use Rattle.zim_linear.specs.Ends.{least_answer, greatest_answer}
-use Rattle.zim_forms.specs.Algebra.{form_sum, form_times, GivesForm}
+use Rattle.zim_forms.specs.Algebra.{form_sum, form_times, form_cause, GivesForm}
 use Rattle.zim_forms.specs.FormEnds.{both_ends}
 use Rattle.zim_forms.proofs.WithinLaws.{sum_gave, sum_past}
 use Rattle.zim_forms.proofs.MultipleLaws.{times_gave, times_past}
@@ -23,6 +24,11 @@ pub gives_sum : (a b : LinearForm) (r : Result LinearForm LinFault) → AreTerms
 gives_sum a b (Ok form) ordered answer = sum_gave a b form ordered answer.0 answer.1
 gives_sum a b (Err PastForm) ordered answer = sum_past a b answer
 gives_sum a b (Err Memory) ordered answer = tt
+
+pub gives_added : (a b new : LinearForm) (r : Result Unit LinFault) → AreTerms a.terms → AddedAnswer a b new r → Gives {V = Unit} (λ _. new) form_cause (form_sum a b) r
+gives_added a b new (Ok _) ordered answer = sum_gave a b new ordered answer.0 answer.1
+gives_added a b new (Err PastForm) ordered answer = sum_past a b answer.0
+gives_added a b new (Err Memory) ordered answer = tt
 
 turned_columns : (n : ℕ) (ts : List Term) → AreColumns n (negated_terms ts) → AreColumns n ts
 turned_columns n [] h = tt

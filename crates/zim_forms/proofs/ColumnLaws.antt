@@ -1,9 +1,9 @@
 -- A form with a term of a column that stands behind all its columns.
-use Rattle.std.proofs.Common.{ℕ, suc, inl, inr, ◌≡◌, ◌≢◌, ◌<◌, ◌≤◌, ◌+◌, IsTrue, Bool, true, false, not, List, [], ◌∷◌, ◌++◌, arith, refl, ap, ap₂, sym, ◌∙◌, subst}
+use Rattle.std.proofs.Common.{ℕ, suc, inl, inr, ◌≡◌, ◌≢◌, ◌<◌, ◌≤◌, Bool, true, false, List, [], ◌∷◌, ◌++◌, arith, ap, sym, ◌∙◌, subst}
 use Rattle.zim_rational.specs.Rational.{Rational, zero, plus, times, same}
-use Rattle.zim_rational.proofs.Ring.{plus_zero, plus_comm, plus_assoc, zero_times, times_comm}
+use Rattle.zim_rational.proofs.Ring.{plus_zero, plus_comm, plus_assoc, zero_times}
 use Rattle.zim_rational.proofs.Whole.{same_Decides}
-use Rattle.zim_linear.specs.Forms.{Term, LinearForm, Assignment, AreTermsFrom, AreTerms, AreColumns, form_of, sum_at, number_at}
+use Rattle.zim_linear.specs.Forms.{Term, LinearForm, ColumnNumbers, AreTermsFrom, AreTerms, AreColumns, form_of, sum_at, number_at}
 use Rattle.zim_linear.proofs.FormLaws.{same_or_other, sum_at_none, sum_at_more, sum_at_append}
 use Rattle.zim_linear.proofs.UniqueLaws.{one_form}
 use Rattle.zim_forms.specs.Algebra.{◌⊕◌, ◌⊙◌, the, IsBehind}
@@ -27,7 +27,7 @@ ended_from first n (t ∷ ts) x q le lt over terms some =
 pub ended_terms : (a : LinearForm) (x : ℕ) (q : Rational) → IsBehind x a → AreTerms a.terms → q ≢ zero → AreTerms (a.terms ++ (x, q) ∷ [])
 ended_terms a x q behind terms some = ended_from 0 behind.0 a.terms x q (omega arith) behind.1 behind.2 terms some
 
-number_ended : (v : Assignment) (a : LinearForm) (x : ℕ) (q : Rational) → number_at v (form_of (a.terms ++ (x, q) ∷ []) a.constant) ≡ plus (number_at v a) (times q (v x))
+number_ended : (v : ColumnNumbers) (a : LinearForm) (x : ℕ) (q : Rational) → number_at v (form_of (a.terms ++ (x, q) ∷ []) a.constant) ≡ plus (number_at v a) (times q (v x))
 unfolding number_at
 number_ended v a x q =
     ap (λ (n : Rational). plus n a.constant) (sum_at_append v a.terms ((x, q) ∷ []) ∙ ap (plus (sum_at v a.terms)) (sum_at_more v (x, q) [] ∙ ap (plus (times q (v x))) (sum_at_none v) ∙ plus_zero (times q (v x))))
@@ -35,7 +35,7 @@ number_ended v a x q =
     ∙ ap (plus (sum_at v a.terms)) (plus_comm (times q (v x)) a.constant)
     ∙ sym (plus_assoc (sum_at v a.terms) a.constant (times q (v x)))
 
-number_with : (v : Assignment) (a : LinearForm) (x : ℕ) (q : Rational) → number_at v (a ⊕ q ⊙ the x) ≡ plus (number_at v a) (times q (v x))
+number_with : (v : ColumnNumbers) (a : LinearForm) (x : ℕ) (q : Rational) → number_at v (a ⊕ q ⊙ the x) ≡ plus (number_at v a) (times q (v x))
 number_with v a x q =
     number_sum v a (q ⊙ the x) ∙ ap (plus (number_at v a)) (number_multiple v q (the x) ∙ ap (times q) (number_the v x))
 

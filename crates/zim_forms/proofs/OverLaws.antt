@@ -1,6 +1,6 @@
 -- Forms by operators over n columns: they are in order, and their columns are those of their operands.
-use Rattle.std.proofs.Common.{ℕ, ◌≡◌, ◌≢◌, ◌<◌, ◌≤◌, List, [], ◌∷◌, map, arith, sym}
-use Rattle.zim_rational.specs.Rational.{Rational, zero, one, times, negate}
+use Rattle.std.proofs.Common.{ℕ, ◌<◌, ◌≤◌, List, [], ◌∷◌, map, arith}
+use Rattle.zim_rational.specs.Rational.{Rational, times}
 use Rattle.zim_rational.proofs.Whole.{one_different}
 use Rattle.zim_linear.specs.Forms.{Term, LinearForm, AreTerms, AreColumns}
 use Rattle.zim_linear.specs.Sums.{negated_terms, negated_form}

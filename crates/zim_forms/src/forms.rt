@@ -1,9 +1,10 @@
 // The calls on forms, with the words of the operators in their clauses.
-ghost use Rattle.std.specs.Prelude.{◌≡◌, ◌≢◌, [], ◌∷◌, ◌++◌, IfOk};
+ghost use Rattle.std.specs.Prelude.{◌≡◌, ◌≢◌, [], ◌∷◌, ◌++◌, IfOk, OnErr};
+ghost use Rattle.zim_answer.specs.Gives.{Gives};
 ghost use Rattle.zim_rational.specs.Rational.{zero};
 ghost use Rattle.zim_linear.specs.Sums.{negated_form};
 ghost use Rattle.zim_linear.specs.Ends.{HaveSides};
-ghost use Rattle.zim_forms.specs.Algebra.{◌⊕◌, ◌⊙◌, the, form_sum, form_times, IsBehind, GivesForm};
+ghost use Rattle.zim_forms.specs.Algebra.{◌⊕◌, ◌⊙◌, the, form_sum, form_times, IsBehind, form_cause, GivesForm};
 ghost use Rattle.zim_forms.specs.FormEnds.{both_ends};
 
 use std::alloc::Global;
@@ -19,6 +20,15 @@ pub fn sum(alloc: Global, a: &Form, b: &Form) -> Result<Form, LinFault>
 {
     let _ordered = a.terms();
     linear::add(alloc, a, b)
+}
+
+/// Adds b to a, in place where the columns of b stand behind those of a. `Past` as in `sum`; after a refusal a is as it was.
+pub fn add_to(a: &mut Form, b: &Form) -> Result<(), LinFault>
+    ensures sum { Gives (λ _. a.new) form_cause (form_sum a.old b.now) result }
+    ensures err { OnErr result (a.new ≡ a.old) }
+{
+    let _ordered = a.terms();
+    linear::add_to(a, b)
 }
 
 /// a - b, with `Past` as in the sum of a and -b.

@@ -8,5 +8,5 @@
 mod forms;
 mod numbers;
 
-pub use forms::{difference, ends, multiple, sum, with_column};
+pub use forms::{add_to, difference, ends, multiple, sum, with_column};
 pub use numbers::{exact_difference, exact_quotient, exact_sum};

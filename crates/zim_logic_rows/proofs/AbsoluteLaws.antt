@@ -8,7 +8,7 @@ use Rattle.zim_rational.proofs.Order.{at_most_trans, at_most_turned, negate_at_m
 use Rattle.zim_rational.proofs.Ring.{negate_zero}
 use Rattle.zim_rational.proofs.Whole.{is_whole_whole, whole_negate, whole_is_whole}
 use Rattle.zim_rational.proofs.Rows.{absolute_rows}
-use Rattle.zim_linear.specs.Forms.{LinearForm, Term, Assignment, AreColumns, number_at}
+use Rattle.zim_linear.specs.Forms.{LinearForm, Term, ColumnNumbers, AreColumns, number_at}
 use Rattle.zim_rows.specs.System.{column_of}
 use Rattle.zim_rows.specs.declared.rows.GivenRow.{GivenRow}
 use Rattle.zim_rows.specs.declared.rows.RowFrom.{RowFrom}
@@ -26,7 +26,7 @@ use Rattle.zim_logic_rows.proofs.TruthLaws.{RangesAt, truth_of, truth_kept}
 
 -- ---- the four rows
 
-four_kept : (source : RowFrom) (x : Assignment) (p s t : LinearForm) (a b : Rational) → let P : Rational = number_at x p in let S : Rational = number_at x s in let T : Rational = number_at x t in
+four_kept : (source : RowFrom) (x : ColumnNumbers) (p s t : LinearForm) (a b : Rational) → let P : Rational = number_at x p in let S : Rational = number_at x s in let T : Rational = number_at x t in
     IsBinary S → ((S ≡ one) ↔ IsAtMost zero T) → IsAtMost (negate (plus T T)) a → IsAtMost (plus T T) b
     → KeepConstraints x (map given_constraint (compared_row source (p ⊖ t) AtLeast zero ∷ compared_row source (p ⊕ t) AtLeast zero ∷ compared_row source (p ⊖ t ⊕ a ⊙ s) AtMost a ∷ compared_row source (p ⊕ t ⊖ b ⊙ s) AtMost zero ∷ [])) ↔ (P ≡ absolute T)
 four_kept source x p s t a b two sign low high =
@@ -101,7 +101,7 @@ both_kept source t a b v z s r large two =
     let T : Rational = number_at (assigned v) t.form in
     let u : List Rational = v ++ z ∷ [] in
     let size : length u ≡ n + 1 = length-append v (z ∷ []) in
-    let x : Assignment = assigned (v ++ z ∷ s ∷ []) in
+    let x : ColumnNumbers = assigned (v ++ z ∷ s ∷ []) in
     let join : u ++ s ∷ [] ≡ v ++ z ∷ s ∷ [] = append_assoc v (z ∷ []) (s ∷ []) in
     let sign_rows : List GivenRow = (truth_of source t zero (n + 1 + 1)).rows in
     let same_t : number_at (assigned u) t.form ≡ T = number_joined v (z ∷ []) t.form r.over in

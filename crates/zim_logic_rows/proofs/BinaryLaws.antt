@@ -1,5 +1,5 @@
 -- One binary column: the rows of forms, the numbers that it can be, and a step that makes one.
-use Rattle.std.proofs.Common.{ℕ, ℤ, suc, ◌≤ℤ◌, ◌⊎◌, pos, ◌≡◌, ◌<◌, ◌≤◌, ◌+◌, ◌-◌, ◌↔◌, inl, inr, cond, IsTrue, IsFalse, true, false, Bool, List, [], ◌∷◌, ◌++◌, length, length-append, get_or, drop, drop-cons, map, Ok, arith, refl, ap, ap₂, sym, ◌∙◌, subst}
+use Rattle.std.proofs.Common.{ℕ, ℤ, suc, ◌≤ℤ◌, ◌⊎◌, pos, ◌≡◌, ◌<◌, ◌≤◌, ◌+◌, ◌-◌, ◌↔◌, inl, inr, IsTrue, IsFalse, true, false, Bool, List, [], ◌∷◌, ◌++◌, length, length-append, get_or, drop, drop-cons, map, Ok, arith, refl, ap, ap₂, sym, ◌∙◌, subst}
 use Rattle.std.proofs.lemmas.List.{drop_all, get_or_append_left}
 use Rattle.std.proofs.lemmas.Int.{ints}
 use Rattle.zim_answer.proofs.BindLemmas.{bind_gave}
@@ -8,7 +8,7 @@ use Rattle.zim_rational.specs.Rational.{Rational, zero, one, whole, plus, negate
 use Rattle.zim_rational.proofs.Fraction.{fractions, common3}
 use Rattle.zim_rational.proofs.Order.{at_most_refl, at_most_zero-one}
 use Rattle.zim_rational.proofs.Whole.{one_different, is_whole_whole, whole_at_most, whole_is_whole}
-use Rattle.zim_linear.specs.Forms.{Term, LinearForm, Assignment, AreColumns, sum_at, number_at}
+use Rattle.zim_linear.specs.Forms.{Term, LinearForm, ColumnNumbers, AreColumns, sum_at, number_at}
 use Rattle.zim_linear.proofs.FormLaws.{sum_at_none, sum_at_more}
 use Rattle.zim_rows.specs.declared.rows.Column.{Column}
 use Rattle.zim_rows.specs.declared.rows.GivenRow.{GivenRow}
@@ -16,7 +16,7 @@ use Rattle.zim_rows.specs.declared.rows.RowFrom.{RowFrom}
 use Rattle.zim_rows.specs.declared.rows.Sense.TheVariants as sense
 use Rattle.zim_rows.specs.System.{LinearSystem}
 use Rattle.zim_rows.specs.Points.{IsSystemPoint, KeepsColumn, KeepColumns, Constraint, KeepConstraints, assigned, given_constraint, first_numbers}
-use Rattle.zim_rows.specs.Steps.{Step, with_step, placed, binary}
+use Rattle.zim_rows.specs.Steps.{Step, with_step, step_placed, binary}
 use Rattle.zim_rows.specs.Extending.{IsValid, Widens, Fits, FitsOnce}
 use Rattle.zim_rows.proofs.StepLaws.{each_has_number, step_widens, step_extends, fits_after, placed_is}
 use Rattle.zim_rows.proofs.CutLaws.{point_cut}
@@ -47,28 +47,28 @@ row_least : (s k r : Rational) → IsAtMost (plus r (negate k)) s ↔ IsAtMost r
 row_least =
     common3 (λ s k r. IsAtMost (plus r (negate k)) s ↔ IsAtMost r (plus s k)) (λ x y u v s t d some. simp fractions (omega arith))
 
-pub most_kept : (x : Assignment) (source : RowFrom) (f : LinearForm) (right : Rational) → KeepConstraints x (given_constraint (compared_row source f sense.AtMost right) ∷ []) ↔ IsAtMost (number_at x f) right
+pub most_kept : (x : ColumnNumbers) (source : RowFrom) (f : LinearForm) (right : Rational) → KeepConstraints x (given_constraint (compared_row source f sense.AtMost right) ∷ []) ↔ IsAtMost (number_at x f) right
 unfolding number_at
 most_kept x source f right =
     let r = row_most (sum_at x f.terms) f.constant right in
     (λ h. r.0 h.0, λ h. (r.1 h, tt))
 
-pub least_kept : (x : Assignment) (source : RowFrom) (f : LinearForm) (right : Rational) → KeepConstraints x (given_constraint (compared_row source f sense.AtLeast right) ∷ []) ↔ IsAtMost right (number_at x f)
+pub least_kept : (x : ColumnNumbers) (source : RowFrom) (f : LinearForm) (right : Rational) → KeepConstraints x (given_constraint (compared_row source f sense.AtLeast right) ∷ []) ↔ IsAtMost right (number_at x f)
 unfolding number_at
 least_kept x source f right =
     let r = row_least (sum_at x f.terms) f.constant right in
     (λ h. r.0 h.0, λ h. (r.1 h, tt))
 
 -- rows one after another
-pub rows_join : (x : Assignment) (xs ys : List Constraint) → KeepConstraints x xs → KeepConstraints x ys → KeepConstraints x (xs ++ ys)
+pub rows_join : (x : ColumnNumbers) (xs ys : List Constraint) → KeepConstraints x xs → KeepConstraints x ys → KeepConstraints x (xs ++ ys)
 rows_join x [] ys h k = k
 rows_join x (c ∷ cs) ys h k = (h.0, rows_join x cs ys h.1 k)
 
-pub rows_before : (x : Assignment) (xs ys : List Constraint) → KeepConstraints x (xs ++ ys) → KeepConstraints x xs
+pub rows_before : (x : ColumnNumbers) (xs ys : List Constraint) → KeepConstraints x (xs ++ ys) → KeepConstraints x xs
 rows_before x [] ys h = tt
 rows_before x (c ∷ cs) ys h = (h.0, rows_before x cs ys h.1)
 
-pub rows_after : (x : Assignment) (xs ys : List Constraint) → KeepConstraints x (xs ++ ys) → KeepConstraints x ys
+pub rows_after : (x : ColumnNumbers) (xs ys : List Constraint) → KeepConstraints x (xs ++ ys) → KeepConstraints x ys
 rows_after x [] ys h = h
 rows_after x (c ∷ cs) ys h = rows_after x cs ys h.1
 
@@ -170,7 +170,7 @@ binary_step rows = record { columns = binary ∷ []; rows = rows }
 pub binary_gave : (place : Place) (rows : ℕ → List GivenRow) (s : LinearSystem) (r : ℕ) (after : LinearSystem) → with_binary place rows s ≡ Ok (r, after) → (r ≡ next_number s) × (after ≡ with_step s (binary_step (rows (next_number s))))
 unfolding with_binary
 binary_gave place rows s r after h =
-    let m = bind_gave (placed place s (binary_step (rows (next_number s)))) (λ a. Ok (next_number s, a)) (r, after) h in
+    let m = bind_gave (step_placed place s (binary_step (rows (next_number s)))) (λ a. Ok (next_number s, a)) (r, after) h in
     let left : ℕ × LinearSystem = (next_number s, m.0) in
     let right : ℕ × LinearSystem = (r, after) in
     let e : left ≡ right = cc in

@@ -6,7 +6,7 @@ use Rattle.zim_fraction.specs.Answers.{difference_answer}
 use Rattle.zim_fraction.specs.declared.fault.Past.{Past}
 use Rattle.zim_rational.specs.Rational.{Rational, one, plus, minus, negate, times, IsAtMost, IsBinary}
 use Rattle.zim_rational.proofs.Rows.{guarded_at_most, guarded_at_least}
-use Rattle.zim_linear.specs.Forms.{LinearForm, Assignment, number_at}
+use Rattle.zim_linear.specs.Forms.{LinearForm, ColumnNumbers, number_at}
 use Rattle.zim_rows.specs.declared.rows.GivenRow.{GivenRow}
 use Rattle.zim_rows.specs.declared.rows.RowFrom.{RowFrom}
 use Rattle.zim_rows.specs.Points.{KeepConstraints, given_constraint}
@@ -25,11 +25,11 @@ difference_gave a b r h = by (is_sum_within a (negate b)) (record {}) h where
   by false past h = cc
 
 -- c + slack b at a point
-number_guarded : (x : Assignment) (c b : LinearForm) (slack d : Rational) → slack ≡ d → number_at x (c ⊕ slack ⊙ b) ≡ plus (number_at x c) (times d (number_at x b))
+number_guarded : (x : ColumnNumbers) (c b : LinearForm) (slack d : Rational) → slack ≡ d → number_at x (c ⊕ slack ⊙ b) ≡ plus (number_at x c) (times d (number_at x b))
 number_guarded x c b slack d e =
     number_sum x c (slack ⊙ b) ∙ ap (plus (number_at x c)) (number_multiple x slack b ∙ ap (λ (s : Rational). times s (number_at x b)) e)
 
-pub guarded_most_kept : (x : Assignment) (source : RowFrom) (c : LinearForm) (guard : Literal) (v high : Rational) (row : GivenRow) → under_most source c guard v high ≡ Ok row → IsBinary (number_at x (is guard)) → IsAtMost (number_at x c) high
+pub guarded_most_kept : (x : ColumnNumbers) (source : RowFrom) (c : LinearForm) (guard : Literal) (v high : Rational) (row : GivenRow) → under_most source c guard v high ≡ Ok row → IsBinary (number_at x (is guard)) → IsAtMost (number_at x c) high
     → KeepConstraints x (given_constraint row ∷ []) ↔ (number_at x (is guard) ≡ one → IsAtMost (number_at x c) v)
 guarded_most_kept x source c guard v high row h two under =
     let m = bind_gave (difference_answer high v) _ row h in
@@ -43,7 +43,7 @@ guarded_most_kept x source c guard v high row h two under =
       row_is : {r s : GivenRow} → ◌≡◌ {A = Result GivenRow Past} (Ok r) (Ok s) → r ≡ s
       row_is h = cc
 
-pub guarded_least_kept : (x : Assignment) (source : RowFrom) (c : LinearForm) (guard : Literal) (v low : Rational) (row : GivenRow) → under_least source c guard v low ≡ Ok row → IsBinary (number_at x (is guard)) → IsAtMost low (number_at x c)
+pub guarded_least_kept : (x : ColumnNumbers) (source : RowFrom) (c : LinearForm) (guard : Literal) (v low : Rational) (row : GivenRow) → under_least source c guard v low ≡ Ok row → IsBinary (number_at x (is guard)) → IsAtMost low (number_at x c)
     → KeepConstraints x (given_constraint row ∷ []) ↔ (number_at x (is guard) ≡ one → IsAtMost v (number_at x c))
 guarded_least_kept x source c guard v low row h two above =
     let m = bind_gave (difference_answer low v) _ row h in

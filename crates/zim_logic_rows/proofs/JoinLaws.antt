@@ -5,8 +5,8 @@ use Rattle.zim_fault.specs.declared.tokens.Join.{Join}
 use Rattle.zim_fault.specs.declared.tokens.Join.TheVariants.{And, Or, Xor}
 use Rattle.zim_rational.specs.Rational.{Rational, zero, one, plus, minus, negate, IsAtMost, IsBinary}
 use Rattle.zim_rational.proofs.Rows.{and_rows, or_rows, xor_rows}
-use Rattle.zim_linear.specs.Forms.{LinearForm, Assignment, number_at}
-use Rattle.zim_formula.specs.Ground.{joined}
+use Rattle.zim_linear.specs.Forms.{LinearForm, ColumnNumbers, number_at}
+use Rattle.zim_formula.specs.Ground.{joined_truths}
 use Rattle.zim_rows.specs.declared.rows.RowFrom.{RowFrom}
 use Rattle.zim_rows.specs.Points.{KeepConstraints, given_constraint}
 use Rattle.zim_forms.specs.Algebra.{◌⊕◌, ◌⊖◌}
@@ -44,7 +44,7 @@ xor_truth false false = (λ h. absurd (h refl), λ h. let e : false ≡ true = h
 
 -- ---- rows
 
-and_kept : (source : RowFrom) (x : Assignment) (p q r : LinearForm) (f g : Bool) → IsBinary (number_at x r) → number_at x p ≡ number_of f → number_at x q ≡ number_of g
+and_kept : (source : RowFrom) (x : ColumnNumbers) (p q r : LinearForm) (f g : Bool) → IsBinary (number_at x r) → number_at x p ≡ number_of f → number_at x q ≡ number_of g
     → KeepConstraints x (map given_constraint (join_rows source And p q r)) ↔ ((number_at x r ≡ one) ↔ IsTrue (f && g))
 and_kept source x p q r f g two e d =
     let R : Rational = number_at x r in
@@ -64,7 +64,7 @@ and_kept source x p q r f g two e d =
           ((first.1 (subst (λ (n : Rational). IsAtMost n zero) (sym twice) kept.0)).0, second.1 (subst (IsAtMost (negate one)) (sym less) kept.1)),
     )
 
-or_kept : (source : RowFrom) (x : Assignment) (p q r : LinearForm) (f g : Bool) → IsBinary (number_at x r) → number_at x p ≡ number_of f → number_at x q ≡ number_of g
+or_kept : (source : RowFrom) (x : ColumnNumbers) (p q r : LinearForm) (f g : Bool) → IsBinary (number_at x r) → number_at x p ≡ number_of f → number_at x q ≡ number_of g
     → KeepConstraints x (map given_constraint (join_rows source Or p q r)) ↔ ((number_at x r ≡ one) ↔ IsTrue (f || g))
 or_kept source x p q r f g two e d =
     let R : Rational = number_at x r in
@@ -87,7 +87,7 @@ or_kept source x p q r f g two e d =
           ((first.1 (subst (IsAtMost zero) (sym twice) kept.0)).0, second.1 (subst (λ (n : Rational). IsAtMost n zero) (sym less) kept.1)),
     )
 
-xor_kept : (source : RowFrom) (x : Assignment) (p q r : LinearForm) (f g : Bool) → IsBinary (number_at x r) → number_at x p ≡ number_of f → number_at x q ≡ number_of g
+xor_kept : (source : RowFrom) (x : ColumnNumbers) (p q r : LinearForm) (f g : Bool) → IsBinary (number_at x r) → number_at x p ≡ number_of f → number_at x q ≡ number_of g
     → KeepConstraints x (map given_constraint (join_rows source Xor p q r)) ↔ ((number_at x r ≡ one) ↔ IsTrue (if f then not g else g))
 xor_kept source x p q r f g two e d =
     let R : Rational = number_at x r in
@@ -114,9 +114,9 @@ xor_kept source x p q r f g two e d =
     )
 
 -- whatever the join
-pub join_kept : (source : RowFrom) (join : Join) (x : Assignment) (p q r : LinearForm) (f g : Bool) → IsBinary (number_at x r) → number_at x p ≡ number_of f → number_at x q ≡ number_of g
-    → KeepConstraints x (map given_constraint (join_rows source join p q r)) ↔ ((number_at x r ≡ one) ↔ IsTrue (joined join f g))
-unfolding joined
+pub join_kept : (source : RowFrom) (join : Join) (x : ColumnNumbers) (p q r : LinearForm) (f g : Bool) → IsBinary (number_at x r) → number_at x p ≡ number_of f → number_at x q ≡ number_of g
+    → KeepConstraints x (map given_constraint (join_rows source join p q r)) ↔ ((number_at x r ≡ one) ↔ IsTrue (joined_truths join f g))
+unfolding joined_truths
 join_kept source And x p q r f g two e d = and_kept source x p q r f g two e d
 join_kept source Or x p q r f g two e d = or_kept source x p q r f g two e d
 join_kept source Xor x p q r f g two e d = xor_kept source x p q r f g two e d

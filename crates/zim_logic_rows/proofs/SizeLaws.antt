@@ -1,11 +1,11 @@
 -- The numbers of an absolute value: the share of a multiple, the constants of its rows, and the sides of its column.
-use Rattle.std.proofs.Common.{ℕ, ℤ, pos, neg_ℤ, ◌≡◌, ◌≢◌, ◌<◌, inl, inr, cond, IsTrue, IsFalse, Some, arith, refl, ap, ap₂, sym, ◌∙◌, subst, subst₂}
+use Rattle.std.proofs.Common.{pos, neg_ℤ, ◌≡◌, inl, inr, IsTrue, IsFalse, ap, ap₂, sym, ◌∙◌, subst}
 use Rattle.std.proofs.lemmas.Bool.{cases_Bool, cond-true, cond-false}
-use Rattle.zim_rational.specs.Rational.{Rational, zero, one, whole, plus, negate, times, over, at_most, is_whole, IsAtMost}
+use Rattle.zim_rational.specs.Rational.{Rational, zero, one, whole, plus, negate, times, at_most, is_whole, IsAtMost}
 use Rattle.zim_rational.specs.Rounding.{absolute, larger}
-use Rattle.zim_rational.proofs.Order.{at_most_trans, at_most_turned, at_most_refl, at_most_antisymm, negate_at_most, plus_at_most, times_at_most, larger_left, larger_right}
+use Rattle.zim_rational.proofs.Order.{at_most_trans, at_most_turned, at_most_antisymm, negate_at_most, plus_at_most, times_at_most, larger_left, larger_right}
 use Rattle.zim_rational.proofs.Ring.{negate_zero, negate_times, plus_times, one_times, times_zero, times_assoc, times_comm}
-use Rattle.zim_rational.proofs.Whole.{whole_plus, whole_negate, whole_is_whole, is_whole_whole, over_times}
+use Rattle.zim_rational.proofs.Whole.{whole_plus, whole_negate, whole_is_whole, is_whole_whole}
 
 absolute_up : (t : Rational) → IsAtMost zero t → absolute t ≡ t
 unfolding absolute

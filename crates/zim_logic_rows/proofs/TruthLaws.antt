@@ -6,7 +6,7 @@ use Rattle.zim_fraction.specs.Answers.{sum_answer, difference_answer}
 use Rattle.zim_fraction.specs.declared.fault.Past.{Past}
 use Rattle.zim_rational.specs.Rational.{Rational, zero, one, plus, minus, negate, times, at_most, is_whole, IsAtMost, IsBinary}
 use Rattle.zim_rational.proofs.Rows.{truth_rows}
-use Rattle.zim_linear.specs.Forms.{LinearForm, Assignment, AreColumns, number_at}
+use Rattle.zim_linear.specs.Forms.{LinearForm, ColumnNumbers, AreColumns, number_at}
 use Rattle.zim_rows.specs.declared.rows.RowFrom.{RowFrom}
 use Rattle.zim_rows.specs.System.{LinearSystem}
 use Rattle.zim_rows.specs.Points.{IsSystemPoint, KeepConstraints, assigned, given_constraint, first_numbers}
@@ -75,7 +75,7 @@ pub record RangesAt (t : Ranged) (p : List Rational) : Type 0 where
 -- a form less a multiple of a new column
 number_less : (p : List Rational) (w r : Rational) (b : ℕ) (t : LinearForm) → b ≡ length p + 1 → AreColumns (length p) t.terms → number_at (assigned (p ++ w ∷ [])) (t ⊖ r ⊙ the b) ≡ minus (number_at (assigned p) t) (times r w)
 number_less p w r b t e over =
-    let x : Assignment = assigned (p ++ w ∷ []) in
+    let x : ColumnNumbers = assigned (p ++ w ∷ []) in
     let there : x b ≡ w = get_or_push p w zero (b - 1) (omega arith) in
     number_difference x t (r ⊙ the b) ∙ ap₂ minus (number_joined p (w ∷ []) t over) (number_multiple x r (the b) ∙ ap (times r) (number_the x b ∙ there))
 
@@ -83,7 +83,7 @@ number_less p w r b t e over =
 pub truth_kept : (source : RowFrom) (t : Ranged) (c : Rational) (b : ℕ) (p : List Rational) (w : Rational) → b ≡ length p + 1 → IsTrue (is_whole c) → IsBinary w → RangesAt t p
     → KeepConstraints (assigned (p ++ w ∷ [])) (map given_constraint (truth_of source t c b).rows) ↔ ((w ≡ one) ↔ IsAtMost c (number_at (assigned p) t.form))
 truth_kept source t c b p w e f two ranges =
-    let x : Assignment = assigned (p ++ w ∷ []) in
+    let x : ColumnNumbers = assigned (p ++ w ∷ []) in
     let rise : Rational = minus c t.low in
     let fall : Rational = plus (minus t.high c) one in
     let rows = truth_rows (number_at (assigned p) t.form) c t.low t.high w ranges.whole f two ranges.above ranges.under in

@@ -13,14 +13,14 @@ use Rattle.zim_forms.specs.Algebra.{◌⊕◌, ◌⊙◌}
 use Rattle.zim_rows.specs.declared.rows.GivenRow.{GivenRow}
 use Rattle.zim_rows.specs.declared.rows.RowFrom.{RowFrom}
 use Rattle.zim_rows.specs.declared.rows.Sense.TheVariants.{AtLeast, AtMost}
-use Rattle.zim_rows.specs.Steps.{fault_of_kind}
+use Rattle.zim_rows.specs.Steps.{fault_here}
 use Rattle.zim_logic_rows.specs.declared.Literal.{Literal}
 use Rattle.zim_logic_rows.specs.LogicRows.{compared_row, past_at}
 use Rattle.zim_logic_rows.specs.Literals.{is}
 
 -- The end that a guarded row needs; without it the guard has no finite row.
 abbrev pub needed_end : {A : Type 0} → Place → Option Rational → (Rational → Result A Fault) → Result A Fault
-needed_end place None next = Err (fault_of_kind GuardUnbounded place)
+needed_end place None next = Err (fault_here GuardUnbounded place)
 needed_end place (Some end) next = next end
 
 -- `c <= v` where the literal is true: `c + (high - v) b <= high`, b being its form; past where `high - v` is.

@@ -3,3 +3,5 @@ pub mod Truth
 pub mod Literals
 pub mod Absolute
 pub mod Guards
+pub mod Steps
+pub mod Numbers

@@ -12,7 +12,7 @@ use Rattle.zim_rows.specs.declared.rows.RowFrom.{RowFrom}
 use Rattle.zim_rows.specs.declared.rows.RowKind.TheVariants.{One}
 use Rattle.zim_rows.specs.declared.rows.Sense.{Sense}
 use Rattle.zim_rows.specs.System.{LinearSystem, row_of}
-use Rattle.zim_rows.specs.Steps.{Encoding, placed, binary, fault_of_kind}
+use Rattle.zim_rows.specs.Steps.{Encoding, step_placed, binary, fault_here}
 
 -- The row that compares a form with a number: the form's constant goes to the right side.
 abbrev pub compared_row : RowFrom → LinearForm → Sense → Rational → GivenRow
@@ -25,7 +25,7 @@ next_number system = length system.columns + 1
 -- What is past is a fault at the place.
 abbrev pub past_at : {A : Type 0} → Place → Result A Past → Result A Fault
 past_at place (Ok value) = Ok value
-past_at place (Err past) = Err (fault_of_kind PastNumber place)
+past_at place (Err past) = Err (fault_here PastNumber place)
 
 -- An answer that makes no column and no row.
 abbrev pub lifted : {A : Type 0} → Result A Fault → Encoding A
@@ -34,9 +34,9 @@ lifted answer system = answer >>= λ value. Ok (value, system)
 -- One binary column and the rows that its number gives, at the place; the value is the number.
 unfoldable pub with_binary : Place → (ℕ → List GivenRow) → Encoding ℕ
 with_binary place rows system =
-    placed place system (record { columns = binary ∷ []; rows = rows (next_number system) }) >>= λ after. Ok (next_number system, after)
+    step_placed place system (record { columns = binary ∷ []; rows = rows (next_number system) }) >>= λ after. Ok (next_number system, after)
 
 -- Rows, and no column, at the place.
 unfoldable pub with_rows : Place → List GivenRow → Encoding (Unit {0})
 with_rows place rows system =
-    placed place system (record { columns = []; rows = rows }) >>= λ after. Ok (tt, after)
+    step_placed place system (record { columns = []; rows = rows }) >>= λ after. Ok (tt, after)

@@ -9,7 +9,7 @@ use Rattle.zim_forms.specs.Exact.{◌⊞◌, ◌⊟◌, of_four}
 use Rattle.zim_forms.specs.Algebra.{◌⊖◌, ◌⊙◌, known, the}
 use Rattle.zim_rows.specs.declared.rows.RowFrom.{RowFrom}
 use Rattle.zim_rows.specs.declared.rows.Sense.TheVariants.{AtLeast, AtMost}
-use Rattle.zim_rows.specs.Steps.{Step, Encoding, placed, binary}
+use Rattle.zim_rows.specs.Steps.{Step, Encoding, step_placed, binary}
 use Rattle.zim_logic_rows.specs.declared.Ranged.{Ranged}
 use Rattle.zim_logic_rows.specs.LogicRows.{compared_row, past_at, next_number}
 
@@ -35,7 +35,7 @@ truth_step source t c b =
 unfoldable pub truth_column : RowFrom → Rational → Ranged → Encoding ℕ
 truth_column source c t system =
     past_at source.place (truth_step source t c (next_number system)) >>= λ step.
-    placed source.place system step >>= λ after.
+    step_placed source.place system step >>= λ after.
     Ok (next_number system, after)
 
 -- -T with its ends.

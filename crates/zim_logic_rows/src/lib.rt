@@ -1,12 +1,19 @@
 //! Rows that carry logic: truth columns, joins of literals, absolute values and guarded rows.
 //!
-//! A base crate of types, definitions and laws, without calls. `specs/` says the columns and the rows of each step of
-//! an encoding and the numbers in them, by the operators of `zim_forms`. The files of `proofs/` show at each point of
-//! a system that exactly one list of numbers fits the columns of such a step: a truth column is 1 exactly where its
-//! comparison holds, a join exactly where its operands have the joined truth, an absolute value is that of its form,
-//! and a guarded row holds exactly where its guard is off or its comparison holds.
+//! `specs/` says the columns and the rows of each step of an encoding and the numbers in them, by the operators of
+//! `zim_forms`. The files of `proofs/` show at each point of a system that exactly one list of numbers fits the columns
+//! of such a step: a truth column is 1 exactly where its comparison holds, a join exactly where its operands have the
+//! joined truth, an absolute value is that of its form, and a guarded row holds exactly where its guard is off or its
+//! comparison holds. The calls make the columns and rows of a step; a system takes them by `add_step`.
 #![tactic(auto)]
 
+mod sizes;
+mod steps;
+mod truth;
+
+pub use sizes::absolute_step;
+pub use steps::{NewStep, past_at};
+pub use truth::truth_step;
 use zim_fraction::Fraction;
 use zim_linear::Form;
 

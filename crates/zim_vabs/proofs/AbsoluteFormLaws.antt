@@ -29,7 +29,7 @@ use Rattle.zim_rows.specs.declared.rows.Sense.TheVariants.{AtLeast, AtMost}
 use Rattle.zim_rows.specs.System.{LinearSystem, IsColumn, IsGivenRow, Extends}
 use Rattle.zim_rows.specs.Points.{IsSystemPoint, assigned, first_numbers}
 use Rattle.zim_rows.specs.Covered.{IsCovered}
-use Rattle.zim_rows.specs.Steps.{Step, with_step, placed, binary}
+use Rattle.zim_rows.specs.Steps.{Step, with_step, step_placed, binary}
 use Rattle.zim_rows.specs.Extending.{IsValid, Widens, Fits, FitsOnce, HasShortSides}
 use Rattle.zim_rows.proofs.StepLaws.{each_has_number, step_widens, step_extends, fits_after, placed_is}
 use Rattle.zim_rows.proofs.CutLaws.{point_cut}
@@ -68,7 +68,7 @@ abbrev pub absolute_with : RowFrom → Ranged → ℕ → Step
 absolute_with source t p =
     absolute_made source t p (truth_of source t zero (p + 1)) (larger zero (times (whole (neg_ℤ (pos 2))) t.low)) (larger zero (times (whole (pos 2)) t.high))
 
-step_gave : (source : RowFrom) (t : Ranged) (p : ℕ) (step : Step) → absolute_step source t p ≡ Ok step → step ≡ absolute_with source t p
+pub step_gave : (source : RowFrom) (t : Ranged) (p : ℕ) (step : Step) → absolute_step source t p ≡ Ok step → step ≡ absolute_with source t p
 unfolding absolute_step
 step_gave source t p step h =
     let (sign, sign_is, a) = bind_gave (truth_step source t zero (p + 1)) _ step h in
@@ -84,7 +84,7 @@ step_gave source t p step h =
 pub record AbsoluteGave (source : RowFrom) (f : LinearForm) (s : LinearSystem) (form : LinearForm) (after : LinearSystem) : Type 0 where
   pub t : Ranged
   pub ranged : ranged_at source.place f s.columns ≡ Ok t
-  pub placed_at : placed source.place s (absolute_with source t (next_number s)) ≡ Ok after
+  pub placed_at : step_placed source.place s (absolute_with source t (next_number s)) ≡ Ok after
   pub form_is : form ≡ over one (whole (pos (common_multiple f))) ⊙ the (next_number s)
 
 pub pair_parts : {A B F : Type 0} (a c : A) (b d : B) → ◌≡◌ {A = Result (A × B) F} (Ok (a, b)) (Ok (c, d)) → (a ≡ c) × (b ≡ d)
@@ -99,7 +99,7 @@ unfolding absolute_of
 absolute_gave source f s form after h =
     let p : ℕ = next_number s in
     let (made, made_is, a) = bind_gave (absolute_numbers source f s) _ (form, after) h in
-    let (later, later_is, b) = bind_gave (placed source.place s made.1) _ (form, after) a in
+    let (later, later_is, b) = bind_gave (step_placed source.place s made.1) _ (form, after) a in
     let (form_same, after_same) = pair_parts (made.0 ⊙ the p) form later after b in
     let (t, t_is, c) = bind_gave (ranged_at source.place f s.columns) _ made made_is in
     let numbers = past_gave source.place _ made c in
@@ -109,7 +109,7 @@ absolute_gave source f s form after h =
     record {
       t = t;
       ranged = t_is;
-      placed_at = ap (placed source.place s) (sym (step_gave source t p step step_is) ∙ ap (λ (m : Rational × Step). m.1) same) ∙ later_is ∙ ap Ok after_same;
+      placed_at = ap (step_placed source.place s) (sym (step_gave source t p step step_is) ∙ ap (λ (m : Rational × Step). m.1) same) ∙ later_is ∙ ap Ok after_same;
       form_is = sym form_same ∙ ap (λ (q : Rational). q ⊙ the p) (sym (ap (λ (m : Rational × Step). m.0) same) ∙ quotient_is one _ share share_is);
     }
 
@@ -126,7 +126,7 @@ one_whole : IsTrue (is_whole one)
 unfolding one
 one_whole = whole_is_whole (pos 1)
 
-size_is : (columns : List Column) (f : LinearForm) (t : Ranged) → IsRangedOf columns f t → IsColumn (size_column t)
+pub size_is : (columns : List Column) (f : LinearForm) (t : Ranged) → IsRangedOf columns f t → IsColumn (size_column t)
 size_is columns f t r = record {
   uncrossed = size_from_zero t.low t.high r.ends;
   whole = λ _. record { low = whole_zero; high = size_whole columns f t r };
@@ -144,7 +144,7 @@ six_rows P a b c d e f pa pb pc pd pe pf =
     (All-cons P b (c ∷ d ∷ e ∷ f ∷ []) pb
     (All-cons P c (d ∷ e ∷ f ∷ []) pc (All-cons P d (e ∷ f ∷ []) pd (All-cons P e (f ∷ []) pe (All-cons P f [] pf (All-nil P))))))
 
-rows_are : (source : RowFrom) (t : Ranged) (n : ℕ) → IsOver n t.form → All (IsGivenRow (n + 2)) (absolute_with source t (n + 1)).rows
+pub rows_are : (source : RowFrom) (t : Ranged) (n : ℕ) → IsOver n t.form → All (IsGivenRow (n + 2)) (absolute_with source t (n + 1)).rows
 rows_are source t n over =
     let f = over_more n (n + 2) t.form (omega arith) over in
     let p = over_the (n + 2) (n + 1) (omega arith) (omega arith) in

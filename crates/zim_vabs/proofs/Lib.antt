@@ -1,3 +1,10 @@
 pub mod RangedLaws
 pub mod AbsoluteFormLaws
 pub mod TermLaws
+pub mod IntegerCallLemmas
+pub mod FactorTurnLemmas
+pub mod ColumnTimesLemmas
+pub mod AbsoluteCallLemmas
+pub mod OverTermLaws
+pub mod TermCallLemmas
+pub mod WeightLemmas

@@ -34,7 +34,7 @@ use Rattle.zim_rows.proofs.StepLaws.{each_has_number}
 use Rattle.zim_logic_rows.specs.declared.Ranged.{Ranged}
 use Rattle.zim_logic_rows.specs.LogicRows.{past_at}
 use Rattle.zim_logic_rows.proofs.TruthLaws.{RangesAt, exact_plus}
-use Rattle.zim_vabs.specs.IntegerForms.{column_offence, first_of, offence, whole_multiple, finite_end, with_ends, ranged, unless_offends, ranged_at}
+use Rattle.zim_vabs.specs.IntegerForms.{column_offence, first_kind, offence, whole_multiple, finite_end, with_ends, ranged, unless_offends, ranged_at}
 
 -- ---- columns that serve
 
@@ -54,7 +54,7 @@ serves_from column e =
     let parts = by_parts column.integer column.sides.low column.sides.high e in
     record { integer = parts.0; low = parts.1; high = parts.2 }
 
-none_first : (a b : Option Kind) → first_of a b ≡ None → (a ≡ None) × (b ≡ None)
+none_first : (a b : Option Kind) → first_kind a b ≡ None → (a ≡ None) × (b ≡ None)
 none_first None b e = (refl, e)
 none_first (Some k) b e = cc
 

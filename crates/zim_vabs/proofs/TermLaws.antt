@@ -39,7 +39,7 @@ use Rattle.zim_vabs.proofs.AbsoluteFormLaws.{quotient_is, pair_parts, absolute_m
 
 -- ---- a form of an earlier system at a later point
 
-columns_after : (later earlier : LinearSystem) → Extends later earlier → length earlier.columns ≤ length later.columns
+pub columns_after : (later earlier : LinearSystem) → Extends later earlier → length earlier.columns ≤ length later.columns
 columns_after later earlier more =
     let e : length later.columns ≡ length earlier.columns + length more.columns.0 = ap length more.columns.1 ∙ length-append earlier.columns more.columns.0 in
     omega arith

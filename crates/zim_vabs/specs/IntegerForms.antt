@@ -18,7 +18,7 @@ use Rattle.zim_forms.specs.Algebra.{form_times}
 use Rattle.zim_forms.specs.FormEnds.{both_ends}
 use Rattle.zim_rows.specs.declared.rows.Column.{Column}
 use Rattle.zim_rows.specs.System.{column_at}
-use Rattle.zim_rows.specs.Steps.{fault_of_kind}
+use Rattle.zim_rows.specs.Steps.{fault_here}
 use Rattle.zim_logic_rows.specs.declared.Ranged.{Ranged}
 use Rattle.zim_logic_rows.specs.LogicRows.{past_at}
 
@@ -28,14 +28,14 @@ column_offence column =
     cond column.integer (cond (is_some column.sides.low && is_some column.sides.high) None (Some CondUnbounded)) (Some CondReal)
 
 -- The first answer that there is.
-abbrev pub first_of : Option Kind → Option Kind → Option Kind
-first_of None next = next
-first_of (Some kind) next = Some kind
+abbrev pub first_kind : Option Kind → Option Kind → Option Kind
+first_kind None next = next
+first_kind (Some kind) next = Some kind
 
 -- Why the first column of the terms, by number, that doesn't serve in a condition doesn't.
 unfoldable pub offence : List Column → List Term → Option Kind
 offence columns [] = None
-offence columns (t ∷ ts) = first_of (column_offence (column_at columns t.0)) (offence columns ts)
+offence columns (t ∷ ts) = first_kind (column_offence (column_at columns t.0)) (offence columns ts)
 
 -- The form times the least common multiple of the denominators of its numbers, past where the multiple or a product is.
 unfoldable pub whole_multiple : LinearForm → Result LinearForm Past
@@ -63,7 +63,7 @@ ranged columns f =
 -- An answer where nothing offends; else that kind of fault at the place.
 abbrev pub unless_offends : {A : Type 0} → Place → Option Kind → Result A Fault → Result A Fault
 unless_offends place None answer = answer
-unless_offends place (Some kind) answer = Err (fault_of_kind kind place)
+unless_offends place (Some kind) answer = Err (fault_here kind place)
 
 -- A form in a condition or under an absolute value, refused at the place: first where a column doesn't serve, then where a number is past.
 unfoldable pub ranged_at : Place → LinearForm → List Column → Result Ranged Fault

@@ -1,3 +1,4 @@
 pub mod IntegerForms
 pub mod Terms
 pub mod Meaning
+pub mod Turns

@@ -12,7 +12,7 @@ use Rattle.zim_forms.specs.Exact.{exact_quotient}
 use Rattle.zim_forms.specs.Algebra.{◌⊙◌, known, the, form_sum, form_times}
 use Rattle.zim_rows.specs.declared.rows.RowFrom.{RowFrom}
 use Rattle.zim_rows.specs.System.{LinearSystem}
-use Rattle.zim_rows.specs.Steps.{Step, Encoding, ◌then◌, gives, placed}
+use Rattle.zim_rows.specs.Steps.{Step, Encoding, ◌then◌, gives, step_placed}
 use Rattle.zim_logic_rows.specs.LogicRows.{past_at, lifted, next_number}
 use Rattle.zim_logic_rows.specs.Absolute.{absolute_step}
 use Rattle.zim_vabs.specs.IntegerForms.{ranged_at}
@@ -36,7 +36,7 @@ absolute_numbers source f system =
 unfoldable pub absolute_of : RowFrom → LinearForm → Encoding LinearForm
 absolute_of source f system =
     absolute_numbers source f system >>= λ made.
-    placed source.place system made.1 >>= λ after.
+    step_placed source.place system made.1 >>= λ after.
     Ok (made.0 ⊙ the (next_number system), after)
 
 -- ---- sums and products

@@ -69,17 +69,17 @@ comparison_rows source (Some b) relation f system =
 -- ---- ranges
 
 -- Which of the two numbers of a range is the low side.
-abbrev pub low_side : Relation → Rational → Rational → Rational
-low_side AtLeast first last = last
-low_side AtMost first last = first
-low_side LessThan first last = first
-low_side EqualTo first last = first
-low_side NotEqualTo first last = first
-low_side GreaterThan first last = first
+abbrev pub low_of_range : Relation → Rational → Rational → Rational
+low_of_range AtLeast first last = last
+low_of_range AtMost first last = first
+low_of_range LessThan first last = first
+low_of_range EqualTo first last = first
+low_of_range NotEqualTo first last = first
+low_of_range GreaterThan first last = first
 
 -- The other one.
-abbrev pub high_side : Relation → Rational → Rational → Rational
-high_side relation first last = low_side relation last first
+abbrev pub high_of_range : Relation → Rational → Rational → Rational
+high_of_range relation first last = low_of_range relation last first
 
 -- The rows of `low <= terms <= high` without a guard: one range row where low is below high, one equality where they are equal, and where low is
 -- above high the row `>= low` and then the row `<= high`.
@@ -118,8 +118,8 @@ ranged_rows source (Some b) f low high system =
 -- ---- parts
 
 -- A part of a constraint: what it makes under a guard.
-abbrev pub Part : Type 0
-Part = Guard → Encoding (Unit {0})
+abbrev pub ConstraintPart : Type 0
+ConstraintPart = Guard → Encoding (Unit {0})
 
 -- The literal under which a part of a `vif` stands: that of the condition, joined to the guard where there is one.
 abbrev pub part_guard : RowFrom → Guard → Literal → Encoding Literal
@@ -127,28 +127,28 @@ part_guard source None b = gives b
 part_guard source (Some g) b = joined_column source And g b
 
 -- Parts one after another under one guard.
-unfoldable pub each_part : List Part → Part
+unfoldable pub each_part : List ConstraintPart → ConstraintPart
 each_part [] guard = gives tt
 each_part (part ∷ parts) guard = part guard then λ _. each_part parts guard
 
 -- A part under the literal of its condition.
-abbrev pub under_literal : RowFrom → Guard → Literal → Part → Encoding (Unit {0})
+abbrev pub under_literal : RowFrom → Guard → Literal → ConstraintPart → Encoding (Unit {0})
 under_literal source guard b part = part_guard source guard b then λ g. part (Some g)
 
 -- The part after `else`, for which nothing is made where there is none.
-abbrev pub otherwise_part : RowFrom → Guard → Literal → Option Part → Encoding (Unit {0})
+abbrev pub otherwise_part : RowFrom → Guard → Literal → Option ConstraintPart → Encoding (Unit {0})
 otherwise_part source guard b None = gives tt
 otherwise_part source guard b (Some part) = under_literal source guard (negation b) part
 
 -- What a constraint makes whose parts are what they make.
-abbrev pub constraint_makes : ℕ → GCon-F Part → Part
+abbrev pub constraint_makes : ℕ → GCon-F ConstraintPart → ConstraintPart
 constraint_makes statement (GCon-F.Compare place relation left right) guard =
     difference_of statement place left right then λ f.
     (λ system. comparison_rows (from_place statement place) guard relation f system >>= λ rows. with_rows place rows system)
 constraint_makes statement (GCon-F.Range place relation first term last) guard =
     makes_term statement term then λ f.
     (λ system.
-    ranged_rows (from_place statement place) guard f (low_side relation first last) (high_side relation first last) system >>= λ rows.
+    ranged_rows (from_place statement place) guard f (low_of_range relation first last) (high_of_range relation first last) system >>= λ rows.
     with_rows place rows system)
 constraint_makes statement (GCon-F.And parts) guard = each_part parts guard
 constraint_makes statement (GCon-F.Vif place test first otherwise) guard =
@@ -157,5 +157,5 @@ constraint_makes statement (GCon-F.Vif place test first otherwise) guard =
     otherwise_part (from_place statement place) guard b otherwise
 
 -- What a constraint makes under a guard.
-abbrev pub makes_constraint : ℕ → GCon → Part
-makes_constraint statement = fold-GCon Part (constraint_makes statement)
+abbrev pub makes_constraint : ℕ → GCon → ConstraintPart
+makes_constraint statement = fold-GCon ConstraintPart (constraint_makes statement)

@@ -1,4 +1,4 @@
-use Rattle.std.proofs.Common.{◌≡◌, sym, ap, ap₂, ◌∙◌}
+use Rattle.std.proofs.Common.{sym, ap, ◌∙◌}
 use Rattle.zim_forms.proofs.ColumnLaws.{made_terms, made_form}
 use Rattle.zim_linear.specs.Forms.{form_of}
 use Rattle.zim_forms.proofs.forms.with_column.Goals as goal

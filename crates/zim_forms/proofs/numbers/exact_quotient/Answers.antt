@@ -1,4 +1,4 @@
-use Rattle.std.proofs.Common.{◌≡◌, Ok, Err, sym, ◌∙◌, ap}
+use Rattle.std.proofs.Common.{Err, sym, ◌∙◌, ap}
 use Rattle.zim_forms.proofs.QuotientLemmas.{quotient_ok, quotient_past, quotient_zero}
 use Rattle.zim_forms.proofs.numbers.exact_quotient.Goals as goal
 
