@@ -33,3 +33,8 @@ Gives-line text f fs same is all = record {
 pub Gives-each : {X : Type 0} (text : X → List ℕ) (line : X → List Field) (xs : List X) → AllByRecursion (λ x. Gives (text x) (line x ∷ [])) xs → Gives (flat_map text xs) (map line xs)
 Gives-each text line [] all = Gives-nil
 Gives-each text line (x ∷ xs) all = Gives-append (text x) (flat_map text xs) (line x ∷ []) (map line xs) all.0 (Gives-each text line xs all.1)
+
+-- lines for each member of a list
+pub Gives-flat : {X : Type 0} (text : X → List ℕ) (ls : X → List (List Field)) (xs : List X) → AllByRecursion (λ x. Gives (text x) (ls x)) xs → Gives (flat_map text xs) (flat_map ls xs)
+Gives-flat text ls [] all = Gives-nil
+Gives-flat text ls (x ∷ xs) all = Gives-append (text x) (flat_map text xs) (ls x) (flat_map ls xs) all.0 (Gives-flat text ls xs all.1)

@@ -5,8 +5,8 @@ use Rattle.zim_table.specs.Tuples.Component.{NumberOf, TextOf}
 use Rattle.zim_table.specs.Reader.{Table, table}
 
 -- A text is this table.
-abbrev pub Reads : List ℕ → Table → Type 0
-Reads text is = table text ≡ Some is
+abbrev pub IsReadAs : List ℕ → Table → Type 0
+IsReadAs text is = table text ≡ Some is
 
 -- A text is no table.
 abbrev pub IsRefused : List ℕ → Type 0
@@ -16,15 +16,15 @@ IsRefused text = table text ≡ None
 pub record ExamplesAreRead : Type 0 where
   -- Two columns, and an objective that is maximised.
   pub two_columns :
-      Reads (codes "zimplc table 1\nfactor lp 3\nfactor mps -3\nobjective maximize c\ncolumn x1 x\ncolumn x2 y\nrow r1 a 1 1\nrow r2 a 2 21\nend\n")
+      IsReadAs (codes "zimplc table 1\nfactor lp 3\nfactor mps -3\nobjective maximize c\ncolumn x1 x\ncolumn x2 y\nrow r1 a 1 1\nrow r2 a 2 21\nend\n")
       (record { pairs = record { column = codes "x1"; name = codes "x"; tuple = [] } ∷ record { column = codes "x2"; name = codes "y"; tuple = [] } ∷ []; lp_factor = pos 3; mps_factor = negsuc 2 })
   -- Lines of all kinds; a comma, a blank and a quote stand escaped in a tuple.
   pub all_kinds_of_lines :
-      Reads (codes "zimplc table 1\nfactor lp 1\nfactor mps 1\nobjective none\ncolumn x1 x <1,\"a,b%20%22\",-3/2>\nstartval x1 1/2\npriority x1 10\nhelper x2\ncolumn x3 y\noffset one\nrow r1 a 1 21\nend\n")
+      IsReadAs (codes "zimplc table 1\nfactor lp 1\nfactor mps 1\nobjective none\ncolumn x1 x <1,\"a,b%20%22\",-3/2>\nstartval x1 1/2\npriority x1 10\nhelper x2\ncolumn x3 y\noffset one\nrow r1 a 1 21\nend\n")
       (record { pairs = record { column = codes "x1"; name = codes "x"; tuple = NumberOf (ratio (pos 1) 1) ∷ TextOf (codes "a,b \"") ∷ NumberOf (ratio (negsuc 2) 2) ∷ [] } ∷ record { column = codes "x3"; name = codes "y"; tuple = [] } ∷ []; lp_factor = pos 1; mps_factor = pos 1 })
   -- Factors may be as long as 128 bits allow.
   pub long_factors :
-      Reads (codes "zimplc table 1\nfactor lp 170141183460469231731687303715884105727\nfactor mps -170141183460469231731687303715884105727\nobjective maximize c\nend\n")
+      IsReadAs (codes "zimplc table 1\nfactor lp 170141183460469231731687303715884105727\nfactor mps -170141183460469231731687303715884105727\nobjective maximize c\nend\n")
       (record { pairs = []; lp_factor = pos 170141183460469231731687303715884105727; mps_factor = negsuc 170141183460469231731687303715884105726 })
   -- The LP's factor is from 1.
   pub factor_zero : IsRefused (codes "zimplc table 1\nfactor lp 0\nfactor mps 0\nobjective none\nend\n")

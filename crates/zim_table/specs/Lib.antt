@@ -4,3 +4,4 @@ pub mod Ended
 pub mod Text
 pub mod Correct
 pub mod Examples
+pub mod Columns

@@ -5,7 +5,7 @@ use Rattle.std.specs.List.{filter_map}
 use Rattle.std.specs.Cmp.Lexicographic.{pointwise}
 use Rattle.std.specs.Str.{bytes_eq}
 use Rattle.zim_rational.specs.Rational.{Rational}
-use Rattle.zim_instance.specs.Instance.{Point, number_at}
+use Rattle.zim_instance.specs.Instance.{Point, number_named}
 use Rattle.zim_fields.specs.Fields.{Field, lines, fields}
 use Rattle.zim_fields.specs.Numbers.{from_one_of}
 use Rattle.zim_table.specs.Tuples.{Component, fraction_of, read_tuple}
@@ -52,14 +52,14 @@ abbrev pub row_number : Field → Option ℕ
 row_number field = number_behind 114 field
 
 -- The line of a declared column, whose field in the files and name are given.
-abbrev pub declared : Field → Field → List Component → Option Line
-declared column name components =
+abbrev pub declared_line : Field → Field → List Component → Option Line
+declared_line column name components =
     option_map (λ (j : ℕ). Declared j (record { column = column; name = name; tuple = components })) (column_number column)
 
 -- `column xJ NAME` and `column xJ NAME <..>`
 abbrev pub read_column : List Field → Option Line
-read_column (column ∷ name ∷ []) = declared column name []
-read_column (column ∷ name ∷ tuple ∷ []) = option_and_then (declared column name) (read_tuple tuple)
+read_column (column ∷ name ∷ []) = declared_line column name []
+read_column (column ∷ name ∷ tuple ∷ []) = option_and_then (declared_line column name) (read_tuple tuple)
 read_column _ = None
 
 -- `priority xJ q` or `startval xJ q`
@@ -190,5 +190,5 @@ abbrev pub table : List ℕ → Option Table
 table text = if is_ended text then read_table (map fields (lines text)) else None
 
 -- The numbers of a point of the files for the declared columns, in order: each has that of its column in the files.
-abbrev pub cut : Table → Point → List Rational
-cut said point = map (λ (pair : Pair). number_at point pair.column) said.pairs
+abbrev pub numbers_declared : Table → Point → List Rational
+numbers_declared said point = map (λ (pair : Pair). number_named point pair.column) said.pairs

@@ -40,8 +40,8 @@ unescaped (b ∷ c ∷ d ∷ bytes) =
     else option_map (λ text. b ∷ text) (unescaped (c ∷ d ∷ bytes))
 
 -- A byte that ends a number in a tuple: a comma or `>`.
-abbrev pub ends_number : ℕ → Bool
-ends_number b = b == 44 || b == 62
+abbrev pub ends_component : ℕ → Bool
+ends_component b = b == 44 || b == 62
 
 -- A component and the bytes behind it: a text in double quotes, which has none inside, or a number.
 abbrev pub read_component : List ℕ → Option (Component × List ℕ)
@@ -49,7 +49,7 @@ read_component [] = None
 read_component (b ∷ bytes) =
     if b == 34
     then option_map (λ text. (TextOf text, after_first (λ c. c == 34) bytes)) (unescaped (before_first (λ c. c == 34) bytes))
-    else option_map (λ q. (NumberOf q, drop (length (before_first ends_number (b ∷ bytes))) (b ∷ bytes))) (fraction_of (before_first ends_number (b ∷ bytes)))
+    else option_map (λ q. (NumberOf q, drop (length (before_first ends_component (b ∷ bytes))) (b ∷ bytes))) (fraction_of (before_first ends_component (b ∷ bytes)))
 
 -- Whether a comma follows, with the bytes behind it, or `>` at the end.
 pub data Next : Type 0 where

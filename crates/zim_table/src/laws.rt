@@ -13,8 +13,8 @@ pub fn an_ended_table_is_whole()
     ensures { (text front : List ℕ) (said : Table) → table text ≡ Some said → IsFrontOf front text → EndsInEnd front → front ≡ text }
 {}
 
-/// The law that the text of each linear program with the names of its variables and statements is the table of them: which
-/// column of the files stands for which variable, and the factors of the objective.
+/// The law that the text of each linear program with its declared columns and the names of its statements is the table of
+/// them: which column of the files has which name and tuple, and the factors of the objective.
 ///
 /// The call does nothing.
 pub fn texts_say_names()

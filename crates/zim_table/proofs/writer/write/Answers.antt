@@ -12,6 +12,6 @@ returns g c =
     let put =
     simp
     (lp, mps)
-    at (c.put.ensures ▸ c.put_factor.ensures ▸ c.put_factor-2.ensures ▸ c.put_objective.ensures ▸ c.put_variables.ensures ▸ c.put-2.ensures ▸ c.put_rows.ensures ▸ c.put-3.ensures) in
-    let pieces = simp (lp, c.minimised_factor-minimised.ensures, c.has_offset.ensures, c.text_of_offset.ensures, c.as_slice.ensures) at put in
+    at (c.put.ensures ▸ c.put_factor.ensures ▸ c.put_factor-2.ensures ▸ c.put_objective.ensures ▸ c.put_columns.ensures ▸ c.put-2.ensures ▸ c.put_rows.ensures ▸ c.put-3.ensures) in
+    let pieces = simp (lp, c.minimised_factor-minimised.ensures, c.has_offset.ensures, c.text_of_offset.ensures, c.as_slice.ensures, c.list.ensures, c.len.ensures) at put in
     finished c.new-pen.ensures pieces c.finish.ensures.outcome (search rules)

@@ -1,9 +1,0 @@
--- What was put so far.
-use Rattle.std.specs.Prelude.{take, flat_map}
-use Rattle.std.specs.List.{enumerate_from}
-use Rattle.zim_table.specs.Text.{variable_text}
-use Rattle.zim_gate.specs.Pen.{Writes}
-use Rattle.zim_table.proofs.writer.put_variables.Given as goal
-
-abbrev pub invariant-loop-index : goal.invariant-loop-index
-invariant-loop-index g l = Writes g.F.Folder.state l.initial.pen l.pen (flat_map variable_text (enumerate_from 1 (take l.index l.vars)))
