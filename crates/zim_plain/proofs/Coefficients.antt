@@ -7,7 +7,7 @@ use Rattle.zim_rational.specs.Rational.{Rational, one, plus, times}
 use Rattle.zim_rational.proofs.Ring.{zero_plus, plus_zero, plus_comm, plus_assoc, plus_cancel, times_plus, times_zero, times_one}
 use Rattle.zim_rational.proofs.Sums.{total_map_plus, total_map_same}
 use Rattle.zim_fraction.specs.Limit.{is_number, is_sum_within}
-use Rattle.zim_linear.specs.Forms.{Term, LinearForm, Assignment, AreTermsFrom, AreTerms, AreColumns, sum_at, number_at}
+use Rattle.zim_linear.specs.Forms.{Term, LinearForm, ColumnNumbers, AreTermsFrom, AreTerms, AreColumns, sum_at, number_at}
 use Rattle.zim_linear.specs.Sums.{HasSumWithin, HaveSumsWithin, IsSumWithin, IsSumOf}
 use Rattle.zim_linear.proofs.FormLaws.{sum_at_none, sum_at_more}
 use Rattle.zim_linear.proofs.ProbeLaws.{only, nowhere, sum_nowhere, sum_below, sum_first}
@@ -24,14 +24,14 @@ pub only_other : (i j : ℕ) → i ≢ j → only j i ≡ rational.zero
 unfolding only
 only_other i j e = ap (λ (b : Bool). cond b one rational.zero) (ne_eqb i j e)
 
-pub sum_at_same : (x y : Assignment) (ts : List Term) → ((j : ℕ) → x j ≡ y j) → sum_at x ts ≡ sum_at y ts
+pub sum_at_same : (x y : ColumnNumbers) (ts : List Term) → ((j : ℕ) → x j ≡ y j) → sum_at x ts ≡ sum_at y ts
 unfolding sum_at
 sum_at_same x y ts same = total_map_same (λ (t : Term). times t.1 (x t.0)) (λ (t : Term). times t.1 (y t.0)) (λ t. ap (times t.1) (same t.0)) ts
 
-both : Assignment → Assignment → Assignment
+both : ColumnNumbers → ColumnNumbers → ColumnNumbers
 both x y j = plus (x j) (y j)
 
-sum_at_both : (x y : Assignment) (ts : List Term) → sum_at (both x y) ts ≡ plus (sum_at x ts) (sum_at y ts)
+sum_at_both : (x y : ColumnNumbers) (ts : List Term) → sum_at (both x y) ts ≡ plus (sum_at x ts) (sum_at y ts)
 unfolding sum_at both
 sum_at_both x y ts =
     total_map_same (λ (t : Term). times t.1 (plus (x t.0) (y t.0))) (λ (t : Term). plus (times t.1 (x t.0)) (times t.1 (y t.0))) (λ t. times_plus t.1 (x t.0) (y t.0)) ts
@@ -83,7 +83,7 @@ with_one-only k zero = sym (ap₂ plus (only_same 0 0 refl) (only_other 0 (suc k
 with_one-only k (suc j) = sym (ap (λ (q : Rational). plus q (only (suc k) (suc j))) (only_other (suc j) 0 (λ e. omega arith)) ∙ zero_plus (only (suc k) (suc j)))
 
 -- a form's constant is what terms that have its number at all assignments add up to at column 0
-pub constant_is : (form : LinearForm) (ts : List Term) → ((x : Assignment) → number_at x form ≡ sum_at (with_one x) ts) → form.constant ≡ sum_of_column 0 rational.zero ts
+pub constant_is : (form : LinearForm) (ts : List Term) → ((x : ColumnNumbers) → number_at x form ≡ sum_at (with_one x) ts) → form.constant ≡ sum_of_column 0 rational.zero ts
 unfolding number_at
 constant_is form ts same =
     sym (zero_plus form.constant) ∙ ap (λ (q : Rational). plus q form.constant) (sym (sum_nowhere form.terms)) ∙ same nowhere
@@ -91,7 +91,7 @@ constant_is form ts same =
     ∙ sym (zero_plus (sum_at (only 0) ts)) ∙ sym (column_probe 0 rational.zero ts)
 
 -- at each column a form's number at all assignments, if it is that of terms, has the coefficient that the terms add up to
-pub coefficient_is : (form : LinearForm) (ts : List Term) → AreTerms form.terms → ((x : Assignment) → number_at x form ≡ sum_at (with_one x) ts) → (j : ℕ) → coefficient_at form j ≡ sum_of_column j rational.zero ts
+pub coefficient_is : (form : LinearForm) (ts : List Term) → AreTerms form.terms → ((x : ColumnNumbers) → number_at x form ≡ sum_at (with_one x) ts) → (j : ℕ) → coefficient_at form j ≡ sum_of_column j rational.zero ts
 unfolding number_at
 coefficient_is form ts terms same zero = constant_is form ts same
 coefficient_is form ts terms same (suc k) =
@@ -113,11 +113,11 @@ pub form_probe : (form : LinearForm) (j : ℕ) → AreTerms form.terms → numbe
 unfolding number_at
 form_probe form j terms = ap (λ (q : Rational). plus q form.constant) (sym (coefficient_probe 0 j form.terms terms))
 
-constant_plus : (a b form : LinearForm) → ((x : Assignment) → number_at x form ≡ plus (number_at x a) (number_at x b)) → form.constant ≡ plus a.constant b.constant
+constant_plus : (a b form : LinearForm) → ((x : ColumnNumbers) → number_at x form ≡ plus (number_at x a) (number_at x b)) → form.constant ≡ plus a.constant b.constant
 constant_plus a b form same = sym (constant_probe form) ∙ same nowhere ∙ ap₂ plus (constant_probe a) (constant_probe b)
 
 -- a sum of forms adds up their coefficients
-pub coefficient_plus : (a b form : LinearForm) → AreTerms a.terms → AreTerms b.terms → AreTerms form.terms → ((x : Assignment) → number_at x form ≡ plus (number_at x a) (number_at x b)) → (j : ℕ) → coefficient_at form j ≡ plus (coefficient_at a j) (coefficient_at b j)
+pub coefficient_plus : (a b form : LinearForm) → AreTerms a.terms → AreTerms b.terms → AreTerms form.terms → ((x : ColumnNumbers) → number_at x form ≡ plus (number_at x a) (number_at x b)) → (j : ℕ) → coefficient_at form j ≡ plus (coefficient_at a j) (coefficient_at b j)
 coefficient_plus a b form p q r same zero = constant_plus a b form same
 coefficient_plus a b form p q r same (suc k) =
     let j : ℕ = suc k in

@@ -9,7 +9,7 @@ use Rattle.zim_fraction.specs.Limit.{is_number, is_sum_within}
 use Rattle.zim_linear.specs.Forms.{Term, LinearForm}
 use Rattle.zim_linear.specs.Sums.{negated_terms, negated_form, IsDifferenceWithin, IsDifferenceOf}
 use Rattle.zim_linear.proofs.NegationLaws.{negated_from}
-use Rattle.zim_plain.specs.Statements.{Text, Item, Sum, items_of}
+use Rattle.zim_plain.specs.Statements.{WrittenText, Item, Sum, signed_items}
 use Rattle.zim_plain.specs.Meaning.{sum_number}
 use Rattle.zim_plain.specs.Suits.{SuitsSum}
 use Rattle.zim_plain.specs.Faults.{amount_in, are_differences_within}
@@ -42,17 +42,17 @@ negated_numbers form h j = subst (λ (c : Rational). IsTrue (is_number c)) (sym 
 -- ---- columns and items
 
 -- the coefficients of a list's form
-list_coefficient : (names : List Text) (sum : Sum) (form : LinearForm) → SuitsSum names sum → IsForm names (λ x. sum_number x sum) form → (j : ℕ) → coefficient_at form j ≡ sum_of_column j rational.zero (map (item_term names) (items_of sum))
+list_coefficient : (names : List WrittenText) (sum : Sum) (form : LinearForm) → SuitsSum names sum → IsForm names (λ x. sum_number x sum) form → (j : ℕ) → coefficient_at form j ≡ sum_of_column j rational.zero (map (item_term names) (signed_items sum))
 list_coefficient names sum form suits is j =
-    coefficient_is form (map (item_term names) (items_of sum)) is.terms (λ x. is.is x ∙ sum_column names x sum (declared_sum names sum suits)) j
+    coefficient_is form (map (item_term names) (signed_items sum)) is.terms (λ x. is.is x ∙ sum_column names x sum (declared_sum names sum suits)) j
 
-item_coefficient : (names : List Text) (sum : Sum) (form : LinearForm) (item : Item) → SuitsSum names sum → IsForm names (λ x. sum_number x sum) form → IsDeclared names item → amount_in item sum ≡ coefficient_at form (unwrap_or (item_column names item) 0)
+item_coefficient : (names : List WrittenText) (sum : Sum) (form : LinearForm) (item : Item) → SuitsSum names sum → IsForm names (λ x. sum_number x sum) form → IsDeclared names item → amount_in item sum ≡ coefficient_at form (unwrap_or (item_column names item) 0)
 item_coefficient names sum form item suits is declared =
-    amount_column names item (items_of sum) rational.zero declared (declared_sum names sum suits)
+    amount_column names item (signed_items sum) rational.zero declared (declared_sum names sum suits)
     ∙ sym (list_coefficient names sum form suits is (unwrap_or (item_column names item) 0))
 
 -- two lists over names with their forms, whose coefficients are within the limit
-pub record AreForms (names : List Text) (left right : Sum) (a b : LinearForm) : Type 0 where
+pub record AreForms (names : List WrittenText) (left right : Sum) (a b : LinearForm) : Type 0 where
   pub suits_left : SuitsSum names left
   pub suits_right : SuitsSum names right
   pub left_is : IsForm names (λ x. sum_number x left) a
@@ -63,7 +63,7 @@ pub record AreForms (names : List Text) (left right : Sum) (a b : LinearForm) : 
 abbrev IsColumnWithin : LinearForm → LinearForm → ℕ → Type 0
 IsColumnWithin a b j = IsTrue (is_sum_within (coefficient_at a j) (negate (coefficient_at b j)))
 
-each_item : (names : List Text) (left right : Sum) (a b : LinearForm) (items : List (Bool × Item)) → AreForms names left right a b → AreDeclared names items → ((j : ℕ) → IsColumnWithin a b j) → IsTrue (are_differences_within left right items)
+each_item : (names : List WrittenText) (left right : Sum) (a b : LinearForm) (items : List (Bool × Item)) → AreForms names left right a b → AreDeclared names items → ((j : ℕ) → IsColumnWithin a b j) → IsTrue (are_differences_within left right items)
 unfolding are_differences_within
 each_item names left right a b [] f declared h = refl
 each_item names left right a b (i ∷ is) f declared h =
@@ -75,7 +75,7 @@ each_item names left right a b (i ∷ is) f declared h =
     (each_item names left right a b is f declared.1 h)
 
 -- a column has a difference within the limit, or no item has it
-each_column : (names : List Text) (left right : Sum) (a b : LinearForm) (items : List (Bool × Item)) → AreForms names left right a b → AreDeclared names items → IsTrue (are_differences_within left right items) → (j : ℕ) → IsColumnWithin a b j ⊎ ((s : Rational) → sum_of_column j s (map (item_term names) items) ≡ s)
+each_column : (names : List WrittenText) (left right : Sum) (a b : LinearForm) (items : List (Bool × Item)) → AreForms names left right a b → AreDeclared names items → IsTrue (are_differences_within left right items) → (j : ℕ) → IsColumnWithin a b j ⊎ ((s : Rational) → sum_of_column j s (map (item_term names) items) ≡ s)
 unfolding are_differences_within sum_of_column
 each_column names left right a b [] f declared h j = inr (λ s. refl)
 each_column names left right a b (i ∷ is) f declared h j =
@@ -99,20 +99,20 @@ each_column names left right a b (i ∷ is) f declared h j =
 
 -- ---- the difference
 
-pub difference_within : (names : List Text) (left right : Sum) (a b : LinearForm) → AreForms names left right a b → IsDifferenceWithin a b → IsTrue (are_differences_within left right (items_of left))
+pub difference_within : (names : List WrittenText) (left right : Sum) (a b : LinearForm) → AreForms names left right a b → IsDifferenceWithin a b → IsTrue (are_differences_within left right (signed_items left))
 difference_within names left right a b f within =
-    each_item names left right a b (items_of left) f (declared_sum names left f.suits_left)
+    each_item names left right a b (signed_items left) f (declared_sum names left f.suits_left)
     (λ j. subst (λ (c : Rational). IsTrue (is_sum_within (coefficient_at a j) c)) (negated_at b j)
     (within_sum a (negated_form b) f.left_is.terms (negated_from 0 b.terms f.right_is.terms) f.left_numbers (negated_numbers b f.right_numbers) within j))
 
-pub within_difference : (names : List Text) (left right : Sum) (a b : LinearForm) → AreForms names left right a b → IsTrue (are_differences_within left right (items_of left)) → IsDifferenceWithin a b
+pub within_difference : (names : List WrittenText) (left right : Sum) (a b : LinearForm) → AreForms names left right a b → IsTrue (are_differences_within left right (signed_items left)) → IsDifferenceWithin a b
 within_difference names left right a b f within =
     sum_within a (negated_form b) f.left_is.terms (negated_from 1 b.terms (from_one (length names) b.terms f.right_is.terms f.right_is.columns))
     (λ j. subst (λ (c : Rational). IsTrue (is_sum_within (coefficient_at a j) c)) (sym (negated_at b j)) (at_column j))
   where
     at_column : (j : ℕ) → IsColumnWithin a b j
     at_column j =
-        elim (each_column names left right a b (items_of left) f (declared_sum names left f.suits_left) within j) [
+        elim (each_column names left right a b (signed_items left) f (declared_sum names left f.suits_left) within j) [
           | inl there ↦ there
           | inr none ↦
               subst (λ (c : Rational). IsTrue (is_sum_within c (negate (coefficient_at b j)))) (sym (list_coefficient names left a f.suits_left f.left_is j ∙ none rational.zero))
@@ -120,7 +120,7 @@ within_difference names left right a b f within =
         ]
 
 -- the form of the difference
-pub difference_form : (names : List Text) (left right : Sum) (a b form : LinearForm) → AreForms names left right a b → IsDifferenceOf a b form → IsRowForm names left right form
+pub difference_form : (names : List WrittenText) (left right : Sum) (a b form : LinearForm) → AreForms names left right a b → IsDifferenceOf a b form → IsRowForm names left right form
 difference_form names left right a b form f is = record {
   is = λ x. is.number x ∙ ap₂ minus (f.left_is.is x) (f.right_is.is x);
   terms = is.terms;

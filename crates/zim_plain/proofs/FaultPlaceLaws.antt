@@ -15,10 +15,10 @@ use Rattle.zim_rows.specs.declared.rows.GivenRow.{GivenRow}
 use Rattle.zim_rows.specs.declared.rows.Objective as rows
 use Rattle.zim_rows.specs.Factors.{row_within, form_within}
 use Rattle.zim_rows.specs.System.{LinearSystem}
-use Rattle.zim_rows.specs.Scaled.{past_at, rows_fault, objective_fault, first_of, first_fault}
-use Rattle.zim_plain.specs.Statements.{Text, Literal, Divisor, Coefficient, Item, Constant, Multiple, Further, Sum, Statement, Variable, Objective, Constraint, Model, head_of, variables}
+use Rattle.zim_rows.specs.Scaled.{past_fault, rows_fault, objective_fault, earlier_fault, first_fault}
+use Rattle.zim_plain.specs.Statements.{WrittenText, Literal, Divisor, Coefficient, Item, Constant, Multiple, Further, Sum, Statement, Variable, Objective, Constraint, PlainModel, head_of, variables}
 use Rattle.zim_plain.specs.Meaning.{literal_number}
-use Rattle.zim_plain.specs.Faults.{past_unless, literal_fault, divisor_fault, coefficient_fault, item_fault, items_fault, amount, amount_among, sums_fault, constants_fault, names_variable, first_item, numbers_fault, adding_fault, difference_fault, limit_fault, rows_of, number_fault, HasFault, unsuited, numbers}
+use Rattle.zim_plain.specs.Faults.{past_unless, literal_fault, divisor_fault, coefficient_fault, item_fault, items_fault, amount, amount_among, sums_fault, constants_fault, has_variable, first_item, numbers_fault, adding_fault, difference_fault, limit_fault, rows_of, number_fault, HasFault, unsuited, numbers}
 use Rattle.zim_plain.specs.Systems.{AreRowsOf, HasObjectiveOf, IsSystemOf}
 use Rattle.zim_plain.specs.Answers.{IsFirstFault, not_plain, stated, finished, HasPlaceOfStatements}
 use Rattle.zim_plain.proofs.Literals.{literal_faultless, literal_faulty}
@@ -32,7 +32,7 @@ IsKept put place = put place ≡ place
 abbrev FaultKept : (Place → Place) → Option Fault → Type 0
 FaultKept put fault = IfSome fault (λ (f : Fault). IsKept put f.place)
 
-first_kept : (put : Place → Place) (a b : Option Fault) → FaultKept put a → FaultKept put b → FaultKept put (first_of a b)
+first_kept : (put : Place → Place) (a b : Option Fault) → FaultKept put a → FaultKept put b → FaultKept put (earlier_fault a b)
 first_kept put (Some f) b h k = h
 first_kept put None b h k = k
 
@@ -108,13 +108,13 @@ numbers_kept : (put : Place → Place) (sum : Sum) → put_sum put sum ≡ sum �
 numbers_kept put sum h =
     let others : map (put_further put) sum.others ≡ sum.others = ap (λ (x : Sum). x.others) h in
     first_kept put (item_fault sum.first) _ (item_kept put sum.first (ap (λ (x : Sum). x.first) h))
-    (either_kept put (names_variable sum) (items_fault sum.others) (constants_fault (first_item sum) sum.others)
+    (either_kept put (has_variable sum) (items_fault sum.others) (constants_fault (first_item sum) sum.others)
     (items_kept put sum.others others)
     (constants_kept put (first_item sum) sum.others others))
 
 adding_kept : (put : Place → Place) (sum : Sum) → put_sum put sum ≡ sum → FaultKept put (adding_fault sum)
 adding_kept put sum h =
-    either_kept put (names_variable sum) (sums_fault (first_item sum) sum.others) None (sums_kept put (first_item sum) sum.others (ap (λ (x : Sum). x.others) h)) tt
+    either_kept put (has_variable sum) (sums_fault (first_item sum) sum.others) None (sums_kept put (first_item sum) sum.others (ap (λ (x : Sum). x.others) h)) tt
 
 -- ---- statements
 
@@ -125,7 +125,7 @@ limit_kept put count kind place h = by (nat_le 1000000 count)
     by true = h
     by false = tt
 
-number_kept : (put : Place → Place) (before : Model) (s : Statement) → put_statement put s ≡ s → FaultKept put (number_fault before s)
+number_kept : (put : Place → Place) (before : PlainModel) (s : Statement) → put_statement put s ≡ s → FaultKept put (number_fault before s)
 unfolding number_fault
 number_kept put before (Variable head) h =
     let at : IsKept put head.at = cc in limit_kept put (length (variables before)) TooManyColumns head.at at
@@ -149,17 +149,17 @@ word_kept put (Variable head) h = cc
 word_kept put (Objective maximize head sum) h = cc
 word_kept put (Constraint head left sense at right) h = cc
 
-statement_fault_kept : (put : Place → Place) (before : Model) (s : Statement) (fault : Fault) → HasFault before s fault → put_statement put s ≡ s → IsKept put fault.place
+statement_fault_kept : (put : Place → Place) (before : PlainModel) (s : Statement) (fault : Fault) → HasFault before s fault → put_statement put s ≡ s → IsKept put fault.place
 statement_fault_kept put before s _ (unsuited other) h = word_kept put s h
 statement_fault_kept put before s fault (numbers _ follows e) h = subst (FaultKept put) e (number_kept put before s h)
 
 -- ---- systems
 
-given_kept : (put : Place → Place) (within : Bool) (place : Place) (later : Option Fault) → IsKept put place → FaultKept put later → FaultKept put (cond within later (Some (past_at place)))
+given_kept : (put : Place → Place) (within : Bool) (place : Place) (later : Option Fault) → IsKept put place → FaultKept put later → FaultKept put (cond within later (Some (past_fault place)))
 given_kept put true place later h k = k
 given_kept put false place later h k = h
 
-rows_kept : (put : Place → Place) (names : List Text) (position : ℕ) (model : Model) (rs : List GivenRow) → AreRowsOf names position model rs → map (put_statement put) model ≡ model → FaultKept put (rows_fault rs)
+rows_kept : (put : Place → Place) (names : List WrittenText) (position : ℕ) (model : PlainModel) (rs : List GivenRow) → AreRowsOf names position model rs → map (put_statement put) model ≡ model → FaultKept put (rows_fault rs)
 unfolding rows_fault
 rows_kept put names position [] rs is h = subst (λ (rs : List GivenRow). FaultKept put (rows_fault rs)) (sym is) tt
 rows_kept put names position (Variable head ∷ model) rs is h =
@@ -174,7 +174,7 @@ rows_kept put names position (Constraint head left sense at right ∷ model) (ro
     (subst (IsKept put) (sym is.0.place) there)
     (rows_kept put names (position + 1) model rs is.1 rest)
 
-objective_kept : (put : Place → Place) (names : List Text) (model : Model) (o : Option rows.Objective) → HasObjectiveOf names model o → map (put_statement put) model ≡ model → FaultKept put (objective_fault o)
+objective_kept : (put : Place → Place) (names : List WrittenText) (model : PlainModel) (o : Option rows.Objective) → HasObjectiveOf names model o → map (put_statement put) model ≡ model → FaultKept put (objective_fault o)
 unfolding objective_fault
 objective_kept put names [] o is h = subst (λ (o : Option rows.Objective). FaultKept put (objective_fault o)) (sym is) tt
 objective_kept put names (Variable head ∷ model) o is h =
@@ -186,7 +186,7 @@ objective_kept put names (Objective maximize head sum ∷ model) (Some o) is h =
 objective_kept put names (Constraint head left sense at right ∷ model) o is h =
     let rest : map (put_statement put) model ≡ model = cc in objective_kept put names model o is rest
 
-system_fault_kept : (put : Place → Place) (model : Model) (system : LinearSystem) (fault : Fault) → IsSystemOf model system → first_fault system ≡ Some fault → map (put_statement put) model ≡ model → IsKept put fault.place
+system_fault_kept : (put : Place → Place) (model : PlainModel) (system : LinearSystem) (fault : Fault) → IsSystemOf model system → first_fault system ≡ Some fault → map (put_statement put) model ≡ model → IsKept put fault.place
 system_fault_kept put model system fault is e h =
     subst (FaultKept put) e
     (first_kept put (rows_fault system.rows) (objective_fault system.objective)

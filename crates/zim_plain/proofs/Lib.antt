@@ -14,6 +14,7 @@ pub mod SystemLaws
 pub mod FormLaws
 pub mod MoreNames
 pub mod BuildLaws
+pub mod DeclareLaws
 pub mod AddLaws
 pub mod TreeLaws
 pub mod ReadSound
@@ -23,5 +24,9 @@ pub mod ModelLaws
 pub mod FaultLaws
 pub mod ReplacedTrees
 pub mod FaultPlaceLaws
+pub mod PlaceLaws
 pub mod WrittenLaws
 pub mod WrittenPlaces
+pub mod NameLaws
+pub mod FormsExist
+pub mod AnswerLaws

@@ -17,7 +17,7 @@ use Rattle.zim_fraction.proofs.AnswerLaws.{quotient_answer_some}
 use Rattle.zim_decimal.specs.Literal.{digits_of, significand, power_of_ten, scaled, value_answer, is_near, scaled_answer, literal_answer}
 use Rattle.zim_decimal.proofs.DigitLaws.{ten_at_least}
 use Rattle.zim_plain.specs.Statements.{Literal, Divisor, Coefficient, Item, Constant, Multiple}
-use Rattle.zim_plain.specs.Meaning.{literal_number, coefficient_number, signed}
+use Rattle.zim_plain.specs.Meaning.{literal_number, coefficient_number, taken_with_sign}
 use Rattle.zim_plain.specs.Faults.{fault_at, literal_fault, divisor_fault, coefficient_fault, item_fault, amount}
 use Rattle.zim_plain.proofs.Limits.{zero_is_number, one_is_number, negate_is_number}
 use Rattle.zim_plain.proofs.Faulting.{first_of_none, first_of_second, past_none, past_some}
@@ -109,7 +109,7 @@ number_of_coefficient c none = by c.divisor ((first_of_none _ _ none).1)
     by None e = number_of_literal c.number ((first_of_none _ _ none).0)
     by (Some d) e = past_none _ _ ((first_of_none _ _ e).1)
 
-signed_number : (negative : Bool) (q : Rational) → IsTrue (is_number q) → IsTrue (is_number (signed negative q))
+signed_number : (negative : Bool) (q : Rational) → IsTrue (is_number q) → IsTrue (is_number (taken_with_sign negative q))
 signed_number true q h = negate_is_number q h
 signed_number false q h = h
 

@@ -10,7 +10,7 @@ use Rattle.zim_rational.specs.Rational as rational
 use Rattle.zim_rational.specs.Rational.{Rational, one, plus, times}
 use Rattle.zim_rational.proofs.Ring.{plus_zero, zero_plus, times_one, one_times, zero_times, times_comm}
 use Rattle.zim_fraction.specs.Limit.{is_number, is_sum_within}
-use Rattle.zim_linear.specs.Forms.{Term, LinearForm, Assignment, AreTermsFrom, AreTerms, AreColumns, form_of, number_at, sum_at}
+use Rattle.zim_linear.specs.Forms.{Term, LinearForm, ColumnNumbers, AreTermsFrom, AreTerms, AreColumns, form_of, number_at, sum_at}
 use Rattle.zim_linear.specs.Answers.{FormAnswer}
 use Rattle.zim_linear.specs.Sums.{IsSumWithin, AddedAnswer}
 use Rattle.zim_linear.specs.Multiples.{IsMultipleWithin, IsMultipleOf}
@@ -31,17 +31,17 @@ use Rattle.zim_plain.proofs.Coefficients.{coefficient_is, from_one, sum_within, 
 
 -- ---- the number of a part
 
-part_at-number : (part : Part) (x : Assignment) → parts_number (part ∷ []) x ≡ times part.amount (with_one x (unwrap_or part.column 0))
+part_at-number : (part : Part) (x : ColumnNumbers) → parts_number (part ∷ []) x ≡ times part.amount (with_one x (unwrap_or part.column 0))
 unfolding parts_number
 part_at-number part x =
     sum_at_more (with_one x) (part_term part) [] ∙ ap (plus (times part.amount (with_one x (unwrap_or part.column 0)))) (sum_at_none (with_one x))
     ∙ plus_zero (times part.amount (with_one x (unwrap_or part.column 0)))
 
-constant_number : (q : Rational) (x : Assignment) → number_at x (form_of [] q) ≡ q
+constant_number : (q : Rational) (x : ColumnNumbers) → number_at x (form_of [] q) ≡ q
 unfolding number_at
 constant_number q x = ap (λ (n : Rational). plus n q) (sum_at_none x) ∙ zero_plus q
 
-column_number : (j : ℕ) (x : Assignment) → number_at x (form_of ((j, one) ∷ []) rational.zero) ≡ x j
+column_number : (j : ℕ) (x : ColumnNumbers) → number_at x (form_of ((j, one) ∷ []) rational.zero) ≡ x j
 unfolding number_at
 column_number j x =
     plus_zero (sum_at x ((j, one) ∷ [])) ∙ sum_at_more x (j, one) [] ∙ ap (plus (times one (x j))) (sum_at_none x) ∙ plus_zero (times one (x j)) ∙ one_times (x j)
@@ -62,7 +62,7 @@ constant_form q h = record {
 -- ---- the form of a part
 
 -- its coefficients add up what there is
-part_numbers : (part : Part) (form : LinearForm) → IsPart part → AreTerms form.terms → ((x : Assignment) → number_at x form ≡ parts_number (part ∷ []) x) → (j : ℕ) → coefficient_at form j ≡ (if nat_eq (unwrap_or part.column 0) j then part.amount else rational.zero)
+part_numbers : (part : Part) (form : LinearForm) → IsPart part → AreTerms form.terms → ((x : ColumnNumbers) → number_at x form ≡ parts_number (part ∷ []) x) → (j : ℕ) → coefficient_at form j ≡ (if nat_eq (unwrap_or part.column 0) j then part.amount else rational.zero)
 unfolding parts_number sum_of_column
 part_numbers part form is terms same j =
     coefficient_is form (part_term part ∷ []) terms same j ∙ by (nat_eq (unwrap_or part.column 0) j)
@@ -71,7 +71,7 @@ part_numbers part form is terms same j =
     by true = zero_plus part.amount
     by false = refl
 
-part_within : (part : Part) (form : LinearForm) → IsPart part → AreTerms form.terms → ((x : Assignment) → number_at x form ≡ parts_number (part ∷ []) x) → AreNumbers form
+part_within : (part : Part) (form : LinearForm) → IsPart part → AreTerms form.terms → ((x : ColumnNumbers) → number_at x form ≡ parts_number (part ∷ []) x) → AreNumbers form
 part_within part form is terms same j =
     subst (λ (c : Rational). IsTrue (is_number c)) (sym (part_numbers part form is terms same j)) (by (nat_eq (unwrap_or part.column 0) j))
   where
@@ -82,7 +82,7 @@ part_within part form is terms same j =
 pub form_of_number : (part : Part) (form : LinearForm) → IsPart part → part.column ≡ None → form ≡ form_of [] part.amount → IsFormOf (part ∷ []) (parts_number (part ∷ [])) form
 form_of_number part form is none e =
     let terms : AreTerms form.terms = subst (λ (f : LinearForm). AreTerms f.terms) (sym e) tt in
-    let same : (x : Assignment) → number_at x form ≡ parts_number (part ∷ []) x =
+    let same : (x : ColumnNumbers) → number_at x form ≡ parts_number (part ∷ []) x =
     λ x. ap (number_at x) e ∙ constant_number part.amount x ∙ sym (times_one part.amount)
     ∙ ap (λ (o : Option ℕ). times part.amount (with_one x (unwrap_or o 0))) (sym none) ∙ sym (part_at-number part x) in
     record {
@@ -95,7 +95,7 @@ form_of_number part form is none e =
 pub form_of_multiple : (part : Part) (column form : LinearForm) (j : ℕ) → IsPart part → part.column ≡ Some j → column ≡ form_of ((j, one) ∷ []) rational.zero → IsMultipleOf column part.amount form → IsFormOf (part ∷ []) (parts_number (part ∷ [])) form
 form_of_multiple part column form j is some e made =
     let first : 0 < j = subst (λ (o : Option ℕ). IfSome o (λ (k : ℕ). 0 < k)) some is.column in
-    let same : (x : Assignment) → number_at x form ≡ parts_number (part ∷ []) x =
+    let same : (x : ColumnNumbers) → number_at x form ≡ parts_number (part ∷ []) x =
     λ x. made.number x ∙ ap (λ (f : LinearForm). times (number_at x f) part.amount) e ∙ ap (λ (v : Rational). times v part.amount) (column_number j x)
     ∙ times_comm (x j) part.amount ∙ ap (times part.amount) (sym (one_from j x first))
     ∙ ap (λ (o : Option ℕ). times part.amount (with_one x (unwrap_or o 0))) (sym some) ∙ sym (part_at-number part x) in
@@ -108,7 +108,7 @@ form_of_multiple part column form j is some e made =
       within = part_within part form is made.terms same;
     }
   where
-    one_from : (j : ℕ) (x : Assignment) → 0 < j → with_one x j ≡ x j
+    one_from : (j : ℕ) (x : ColumnNumbers) → 0 < j → with_one x j ≡ x j
     one_from zero x l = absurd (omega arith)
     one_from (suc j) x l = refl
 
@@ -168,11 +168,11 @@ added_answer old more new part (Err Memory) terms numbers is form answer = tt
 
 -- ---- parts that are added one after another
 
-parts_number-none : (x : Assignment) → parts_number [] x ≡ rational.zero
+parts_number-none : (x : ColumnNumbers) → parts_number [] x ≡ rational.zero
 unfolding parts_number
 parts_number-none x = sum_at_none (with_one x)
 
-parts_number-append : (before : List Part) (part : Part) (x : Assignment) → parts_number (before ++ part ∷ []) x ≡ plus (parts_number before x) (parts_number (part ∷ []) x)
+parts_number-append : (before : List Part) (part : Part) (x : ColumnNumbers) → parts_number (before ++ part ∷ []) x ≡ plus (parts_number before x) (parts_number (part ∷ []) x)
 unfolding parts_number
 parts_number-append before part x =
     ap (sum_at (with_one x)) (map-append part_term before (part ∷ [])) ∙ sum_at_append (with_one x) (map part_term before) (part_term part ∷ [])

@@ -1,5 +1,5 @@
 -- What is read of a list, item by item: its parts, or the number that it is where it names no variable.
-use Rattle.std.proofs.Common.{ℕ, zero, ◌≡◌, ◌<◌, ◌≤◌, ◌+◌, ◌||◌, Bool, true, false, List, [], ◌∷◌, ◌++◌, map, length, take, drop, get_or, IsTrue, Option, Some, None, arith, refl, sym, ap, ap₂, subst, ◌∙◌, append_assoc, append-nil}
+use Rattle.std.proofs.Common.{ℕ, ◌≡◌, ◌<◌, ◌≤◌, ◌+◌, ◌||◌, Bool, true, false, List, [], ◌∷◌, ◌++◌, map, length, take, drop, get_or, IsTrue, Option, Some, None, arith, refl, sym, ap, ap₂, subst, ◌∙◌, append_assoc, append-nil}
 use Rattle.std.specs.Prelude.{if◌then◌else◌, IfSome, Ok, Err}
 use Rattle.std.specs.List.{AllByRecursion}
 use Rattle.std.proofs.lemmas.List.{map-append, take_more, take_all}
@@ -16,11 +16,11 @@ use Rattle.zim_linear.proofs.AnswerLaws.{sum_ok, sum_past, sum_value}
 use Rattle.zim_plain.specs.declared.parts.Part.{Part}
 use Rattle.zim_plain.specs.declared.statement.Further as code
 use Rattle.zim_plain.specs.Reader.{item_of, further_of}
-use Rattle.zim_plain.specs.Statements.{Text, Item, Constant, Multiple, Further, Sum, first_negative, items_of}
+use Rattle.zim_plain.specs.Statements.{WrittenText, Item, Constant, Multiple, Further, Sum, first_negative, signed_items}
 use Rattle.zim_plain.specs.Meaning.{sum_number}
 use Rattle.zim_plain.specs.Suits.{SuitsItem, SuitsSum}
-use Rattle.zim_plain.specs.Faults.{fault_at, item_fault, items_fault, has_name, any_has_name, names_variable, are_alike, amount, amount_among, constants_fault, numbers_fault, first_item}
-use Rattle.zim_plain.specs.Parts.{item_column, part_at, part_of, IsPart}
+use Rattle.zim_plain.specs.Faults.{fault_at, item_fault, items_fault, has_name, any_has_name, has_variable, add_up, amount, amount_among, constants_fault, numbers_fault, first_item}
+use Rattle.zim_plain.specs.Parts.{item_column, part_at, part_behind, IsPart}
 use Rattle.zim_plain.specs.Sides.{IsDeclared, SuitsNumbers, SuitOthers, ArePartsOf, PartAnswer, parts_numbers_fault}
 use Rattle.zim_plain.proofs.Limits.{sum_is_number}
 use Rattle.zim_plain.proofs.Faulting.{first_of_second, first_of_first, past_some, none_past}
@@ -52,12 +52,12 @@ seek_end all i s l = sym (s ∙ ap (λ (fs : List code.Further). any_has_name (m
 
 -- ---- a part
 
-part_column : (names : List Text) (item : Item) → IsDeclared names item → IfSome (item_column names item) (λ j. 0 < j)
+part_column : (names : List WrittenText) (item : Item) → IsDeclared names item → IfSome (item_column names item) (λ j. 0 < j)
 part_column names (Constant c) h = tt
 part_column names (Multiple factor place name) h =
     let p = declared_place names name h in subst (λ (j : ℕ). 0 < j) (sym (column_behind names name p.0 p.1)) (omega arith)
 
-pub part_ok : (names : List Text) (place : Place) (negative : Bool) (item : Item) (made : Part) → SuitsItem names (false, item) → item_fault item ≡ None → made ≡ part_at names place negative item → PartAnswer (item_fault item) (part_at names place negative item) (Ok made)
+pub part_ok : (names : List WrittenText) (place : Place) (negative : Bool) (item : Item) (made : Part) → SuitsItem names (false, item) → item_fault item ≡ None → made ≡ part_at names place negative item → PartAnswer (item_fault item) (part_at names place negative item) (Ok made)
 part_ok names place negative item made suits none is =
     (none, is, subst IsPart (sym is) (record { within = number_of_amount negative item none; column = part_column names item (item_declared names false item suits) }))
 
@@ -68,15 +68,15 @@ all_push P [] x h p = (p, tt)
 all_push P (y ∷ xs) x h p = (h.0, all_push P xs x h.1 p)
 
 -- parts are read as far as some further items
-pub record IsReading (names : List Text) (sum : Sum) (all : List code.Further) (i : ℕ) (parts : List Part) : Type 0 where
+pub record IsReading (names : List WrittenText) (sum : Sum) (all : List code.Further) (i : ℕ) (parts : List Part) : Type 0 where
   pub fault : parts_numbers_fault sum ≡ items_fault (map further_of (drop i all))
   pub first : Part
   pub first_is : first ≡ part_at names first.place (first_negative sum.sign) sum.first
-  pub parts_are : parts ≡ first ∷ map (part_of names) (map further_of (take i all))
+  pub parts_are : parts ≡ first ∷ map (part_behind names) (map further_of (take i all))
   pub each : AllByRecursion IsPart parts
   pub rest : SuitOthers names (map further_of (drop i all))
 
-pub read_start : (names : List Text) (sum : Sum) (all : List code.Further) (place : Place) (negative : Bool) (first : Part) (parts none : List Part) → map further_of all ≡ sum.others → SuitOthers names sum.others → negative ≡ first_negative sum.sign → PartAnswer (item_fault sum.first) (part_at names place negative sum.first) (Ok first) → none ≡ [] → parts ≡ none ++ first ∷ [] → IsReading names sum all 0 parts
+pub read_start : (names : List WrittenText) (sum : Sum) (all : List code.Further) (place : Place) (negative : Bool) (first : Part) (parts none : List Part) → map further_of all ≡ sum.others → SuitOthers names sum.others → negative ≡ first_negative sum.sign → PartAnswer (item_fault sum.first) (part_at names place negative sum.first) (Ok first) → none ≡ [] → parts ≡ none ++ first ∷ [] → IsReading names sum all 0 parts
 read_start names sum all place negative first parts none others suits sign answer e f =
     let is : parts ≡ first ∷ [] = f ∙ ap (λ (ps : List Part). ps ++ first ∷ []) e in
     record {
@@ -88,19 +88,19 @@ read_start names sum all place negative first parts none others suits sign answe
       rest = subst (SuitOthers names) (sym others) suits;
     }
 
-pub read_suits : (names : List Text) (sum : Sum) (all : List code.Further) (i : ℕ) (f : code.Further) (parts : List Part) → IsReading names sum all i parts → i < length all → get_or all i f ≡ f → SuitsItem names (false, item_of f.item)
+pub read_suits : (names : List WrittenText) (sum : Sum) (all : List code.Further) (i : ℕ) (f : code.Further) (parts : List Part) → IsReading names sum all i parts → i < length all → get_or all i f ≡ f → SuitsItem names (false, item_of f.item)
 read_suits names sum all i f parts r l e =
     let rest : SuitOthers names (map further_of (f ∷ drop (i + 1) all)) = subst (λ (fs : List code.Further). SuitOthers names (map further_of fs)) (drop_item all i f l e) r.rest in
     rest.0
 
-pub read_step : (names : List Text) (sum : Sum) (all : List code.Further) (i : ℕ) (f : code.Further) (old new : List Part) (part : Part) → IsReading names sum all i old → i < length all → get_or all i f ≡ f → PartAnswer (item_fault (item_of f.item)) (part_of names (further_of f)) (Ok part) → new ≡ old ++ part ∷ [] → IsReading names sum all (i + 1) new
+pub read_step : (names : List WrittenText) (sum : Sum) (all : List code.Further) (i : ℕ) (f : code.Further) (old new : List Part) (part : Part) → IsReading names sum all i old → i < length all → get_or all i f ≡ f → PartAnswer (item_fault (item_of f.item)) (part_behind names (further_of f)) (Ok part) → new ≡ old ++ part ∷ [] → IsReading names sum all (i + 1) new
 unfolding items_fault
 read_step names sum all i f old new part r l e answer pushed =
     let more : take (i + 1) all ≡ take i all ++ f ∷ [] = take_more all i f l ∙ ap (λ (g : code.Further). take i all ++ g ∷ []) e in
-    let last : map (part_of names) (map further_of (take (i + 1) all)) ≡ map (part_of names) (map further_of (take i all)) ++ part_of names (further_of f) ∷ [] =
-    ap (λ (fs : List code.Further). map (part_of names) (map further_of fs)) more
-    ∙ ap (map (part_of names)) (map-append further_of (take i all) (f ∷ []))
-    ∙ map-append (part_of names) (map further_of (take i all)) (further_of f ∷ []) in
+    let last : map (part_behind names) (map further_of (take (i + 1) all)) ≡ map (part_behind names) (map further_of (take i all)) ++ part_behind names (further_of f) ∷ [] =
+    ap (λ (fs : List code.Further). map (part_behind names) (map further_of fs)) more
+    ∙ ap (map (part_behind names)) (map-append further_of (take i all) (f ∷ []))
+    ∙ map-append (part_behind names) (map further_of (take i all)) (further_of f ∷ []) in
     record {
       fault =
           r.fault ∙ ap (λ (fs : List code.Further). items_fault (map further_of fs)) (drop_item all i f l e)
@@ -109,23 +109,23 @@ read_step names sum all i f old new part r l e answer pushed =
       first_is = r.first_is;
       parts_are =
           pushed ∙ ap (λ (ps : List Part). ps ++ part ∷ []) r.parts_are
-          ∙ ap (λ (p : Part). r.first ∷ (map (part_of names) (map further_of (take i all)) ++ p ∷ [])) answer.1
+          ∙ ap (λ (p : Part). r.first ∷ (map (part_behind names) (map further_of (take i all)) ++ p ∷ [])) answer.1
           ∙ ap (λ (ps : List Part). r.first ∷ ps) (sym last);
       each = subst (AllByRecursion IsPart) (sym pushed) (all_push IsPart old part r.each answer.2);
       rest = (subst (λ (fs : List code.Further). SuitOthers names (map further_of fs)) (drop_item all i f l e) r.rest).1;
     }
 
-pub read_stop : (names : List Text) (sum : Sum) (all : List code.Further) (i : ℕ) (f : code.Further) (parts : List Part) (fault : Fault) → IsReading names sum all i parts → i < length all → get_or all i f ≡ f → item_fault (item_of f.item) ≡ Some fault → parts_numbers_fault sum ≡ Some fault
+pub read_stop : (names : List WrittenText) (sum : Sum) (all : List code.Further) (i : ℕ) (f : code.Further) (parts : List Part) (fault : Fault) → IsReading names sum all i parts → i < length all → get_or all i f ≡ f → item_fault (item_of f.item) ≡ Some fault → parts_numbers_fault sum ≡ Some fault
 unfolding items_fault
 read_stop names sum all i f parts fault r l e met =
     r.fault ∙ ap (λ (fs : List code.Further). items_fault (map further_of fs)) (drop_item all i f l e) ∙ first_of_first _ _ _ met
 
-pub read_end : (names : List Text) (sum : Sum) (all : List code.Further) (i : ℕ) (parts : List Part) → map further_of all ≡ sum.others → IsReading names sum all i parts → length all ≤ i → (parts_numbers_fault sum ≡ None) × ArePartsOf names sum parts × AllByRecursion IsPart parts
+pub read_end : (names : List WrittenText) (sum : Sum) (all : List code.Further) (i : ℕ) (parts : List Part) → map further_of all ≡ sum.others → IsReading names sum all i parts → length all ≤ i → (parts_numbers_fault sum ≡ None) × ArePartsOf names sum parts × AllByRecursion IsPart parts
 unfolding items_fault
 read_end names sum all i parts others r l =
     let whole : map further_of (take i all) ≡ sum.others = ap (map further_of) (take_all i all l) ∙ others in (
       r.fault ∙ ap (λ (fs : List code.Further). items_fault (map further_of fs)) (drop_end all i l),
-      subst (ArePartsOf names sum) (sym r.parts_are) (r.first_is, ap (map (part_of names)) whole),
+      subst (ArePartsOf names sum) (sym r.parts_are) (r.first_is, ap (map (part_behind names)) whole),
       r.each,
     )
 
@@ -134,7 +134,7 @@ read_end names sum all i parts others r l =
 among_append : (item : Item) (s : Rational) (xs ys : List (Bool × Item)) → amount_among item s (xs ++ ys) ≡ amount_among item (amount_among item s xs) ys
 unfolding amount_among
 among_append item s [] ys = refl
-among_append item s (x ∷ xs) ys = among_append item (if are_alike item x.1 then plus s (amount x) else s) xs ys
+among_append item s (x ∷ xs) ys = among_append item (if add_up item x.1 then plus s (amount x) else s) xs ys
 
 among_one : (item : Item) (s : Rational) (i : Bool × Item) → has_name item ≡ false → has_name i.1 ≡ false → amount_among item s (i ∷ []) ≡ plus s (amount i)
 unfolding amount_among
@@ -145,17 +145,17 @@ among_one (Multiple factor place name) s i e f = cc
 -- the numbers before have come to a total
 pub record IsTotalling (sum : Sum) (all : List code.Further) (i : ℕ) (total : Rational) : Type 0 where
   pub before : List (Bool × Item)
-  pub whole : items_of sum ≡ before ++ map pair_of (map further_of (drop i all))
+  pub whole : signed_items sum ≡ before ++ map pair_of (map further_of (drop i all))
   pub fault : numbers_fault sum ≡ constants_fault before (map further_of (drop i all))
   pub total_is : (item : Item) → has_name item ≡ false → amount_among item rational.zero before ≡ total
   pub within : IsTrue (is_number total)
-  pub names : List Text
+  pub names : List WrittenText
   pub rest : SuitOthers names (map further_of (drop i all))
   pub constants : AreConstants (map pair_of (map further_of (drop i all)))
 
-pub total_start : (sum : Sum) (all : List code.Further) (first : Rational) → (names : List Text) × SuitsSum names sum → map further_of all ≡ sum.others → names_variable sum ≡ false → item_fault sum.first ≡ None → first ≡ amount (first_negative sum.sign, sum.first) → IsTotalling sum all 0 first
+pub total_start : (sum : Sum) (all : List code.Further) (first : Rational) → (names : List WrittenText) × SuitsSum names sum → map further_of all ≡ sum.others → has_variable sum ≡ false → item_fault sum.first ≡ None → first ≡ amount (first_negative sum.sign, sum.first) → IsTotalling sum all 0 first
 total_start sum all first suits others none faultless is =
-    let constants : AreConstants (items_of sum) = sum_constants sum none in
+    let constants : AreConstants (signed_items sum) = sum_constants sum none in
     let i : Bool × Item = (first_negative sum.sign, sum.first) in
     record {
       before = first_item sum;
@@ -222,11 +222,11 @@ total_past sum all i f total next p fault t l e faultless is answer at =
     (subst (λ (q : Rational). IsTrue (is_sum_within q (amount k))) (t.total_is k.1 constants.0) ok)))
     ∙ ap Some (sym at)))
 
-pub total_end : (sum : Sum) (all : List code.Further) (i : ℕ) (total : Rational) → names_variable sum ≡ false → IsTotalling sum all i total → length all ≤ i → (numbers_fault sum ≡ None) × ((x : Text → Rational) → sum_number x sum ≡ total) × IsTrue (is_number total)
+pub total_end : (sum : Sum) (all : List code.Further) (i : ℕ) (total : Rational) → has_variable sum ≡ false → IsTotalling sum all i total → length all ≤ i → (numbers_fault sum ≡ None) × ((x : WrittenText → Rational) → sum_number x sum ≡ total) × IsTrue (is_number total)
 unfolding constants_fault
 total_end sum all i total none t l =
-    let whole : items_of sum ≡ t.before = t.whole ∙ ap (λ (fs : List code.Further). t.before ++ map pair_of (map further_of fs)) (drop_end all i l) ∙ append-nil t.before in
-    let constants : AreConstants (items_of sum) = sum_constants sum none in (
+    let whole : signed_items sum ≡ t.before = t.whole ∙ ap (λ (fs : List code.Further). t.before ++ map pair_of (map further_of fs)) (drop_end all i l) ∙ append-nil t.before in
+    let constants : AreConstants (signed_items sum) = sum_constants sum none in (
       t.fault ∙ ap (λ (fs : List code.Further). constants_fault t.before (map further_of fs)) (drop_end all i l),
       λ x. constants_number sum.first sum x constants.0 constants ∙ ap (amount_among sum.first rational.zero) whole ∙ t.total_is sum.first constants.0,
       t.within,

@@ -16,9 +16,9 @@ use Rattle.zim_tree.specs.declared.stmt.Shape.TheVariants as shape
 use Rattle.zim_tree.specs.Levels.{Operands, sums, joined}
 use Rattle.zim_rows.specs.declared.rows.Sense.{Sense}
 use Rattle.zim_rows.specs.declared.rows.Sense.TheVariants.{AtMost, AtLeast, Equal}
-use Rattle.zim_plain.specs.Statements.{Text, Literal, Item, Constant, Multiple, SignAt, Further, Sum, Head, Statement, Variable, Objective, Constraint}
+use Rattle.zim_plain.specs.Statements.{WrittenText, Literal, Item, Constant, Multiple, SignAt, Further, Sum, Head, Statement, Variable, Objective, Constraint}
 use Rattle.zim_plain.specs.Trees.{tree_of_literal, with_sign, tree_of_item, operand_of_further, tree_of_sum, relation_of_sense, headed, tree_of}
-use Rattle.zim_plain.specs.Reading.{◌>>=◌, Layer, literal_in, name_in, signed_in, operand_in, item_in, sum_in, constraint_in, over, multiple, behind_one, behind_two, read_literal, read_name, read_signed, read_product, read_operand, operand_item, product_item, read_item, read_sign, unsigned, read_further, read_others, sum_of_items, read_sum, read_sense, read_constraint, read_objective, shape_of, read_statement}
+use Rattle.zim_plain.specs.Reading.{◌>>=◌, Layer, literal_in, named_layer, signed_in, operand_in, item_in, sum_in, constraint_in, quotient_of, multiple, behind_one, behind_two, read_literal, read_as_name, read_signed, read_product, read_operand, operand_item, product_item, read_item, read_sign, unsigned, read_further, read_others, sum_of_items, read_sum, read_sense, read_constraint, read_goal, shape_of, read_statement}
 
 -- what was read first, and what was read behind it
 record Then {A B : Type 0} (o : Option A) (next : A → Option B) (b : B) : Type 0 where
@@ -40,12 +40,12 @@ literal_sound : (e : Expr) (literal : Literal) → read_literal e ≡ Some liter
 unfolding read_literal
 literal_sound e literal h = sym (literal_layer (out-Expr e) literal h) ∙ roll-out-Expr e
 
-name_layer : (d : Layer) (name : Place × Text) → name_in d ≡ Some name → roll-Expr d ≡ tree.Name name.0 name.1
-name_layer (Expr-F.Name place text) name e = tree.rolls-Name place text ∙ ap (λ (n : Place × Text). tree.Name n.0 n.1) (same_Some (place, text) name e)
+name_layer : (d : Layer) (name : Place × WrittenText) → named_layer d ≡ Some name → roll-Expr d ≡ tree.Name name.0 name.1
+name_layer (Expr-F.Name place text) name e = tree.rolls-Name place text ∙ ap (λ (n : Place × WrittenText). tree.Name n.0 n.1) (same_Some (place, text) name e)
 name_layer _ name e = cc
 
-name_sound : (e : Expr) (name : Place × Text) → read_name e ≡ Some name → tree.Name name.0 name.1 ≡ e
-unfolding read_name
+name_sound : (e : Expr) (name : Place × WrittenText) → read_as_name e ≡ Some name → tree.Name name.0 name.1 ≡ e
+unfolding read_as_name
 name_sound e name h = sym (name_layer (out-Expr e) name h) ∙ roll-out-Expr e
 
 -- a sign and what stands behind it
@@ -87,20 +87,20 @@ product_tree sign number others = tree.Times (with_sign sign (tree_of_literal nu
 
 one_sound : (sign : Option SignAt) (number : Literal) (place : Place) (operator : Token) (operand : Expr) (item : Item) → behind_one number place operator operand ≡ Some item → tree_of_item sign item ≡ product_tree sign number ((place, operator, operand) ∷ [])
 one_sound sign number slash (token.Sign SSlash) divisor item h =
-    let t = then_parts (read_literal divisor) (λ (l : Literal). Some (Constant (over number slash l))) item h in
-    sym (ap (tree_of_item sign) (same_Some (Constant (over number slash t.first)) item t.gave))
+    let t = then_parts (read_literal divisor) (λ (l : Literal). Some (Constant (quotient_of number slash l))) item h in
+    sym (ap (tree_of_item sign) (same_Some (Constant (quotient_of number slash t.first)) item t.gave))
     ∙ ap (λ (d : Expr). product_tree sign number ((slash, token.Sign SSlash, d) ∷ [])) (literal_sound divisor t.first t.was)
 one_sound sign number star (token.Sign SStar) operand item h =
-    let t = then_parts (read_name operand) (λ (n : Place × Text). Some (multiple (record { number = number; divisor = None }) star n)) item h in
+    let t = then_parts (read_as_name operand) (λ (n : Place × WrittenText). Some (multiple (record { number = number; divisor = None }) star n)) item h in
     sym (ap (tree_of_item sign) (same_Some (multiple (record { number = number; divisor = None }) star t.first) item t.gave))
     ∙ ap (λ (d : Expr). product_tree sign number ((star, token.Sign SStar, d) ∷ [])) (name_sound operand t.first t.was)
 one_sound sign number place _ operand item h = cc
 
 two_sound : (sign : Option SignAt) (number : Literal) (slash : Place) (before : Token) (divisor : Expr) (star : Place) (behind : Token) (operand : Expr) (item : Item) → behind_two number slash before divisor star behind operand ≡ Some item → tree_of_item sign item ≡ product_tree sign number ((slash, before, divisor) ∷ (star, behind, operand) ∷ [])
 two_sound sign number slash (token.Sign SSlash) divisor star (token.Sign SStar) operand item h =
-    let t = then_parts (read_literal divisor) (λ (l : Literal). read_name operand >>= (λ (n : Place × Text). Some (multiple (over number slash l) star n))) item h in
-    let u = then_parts (read_name operand) (λ (n : Place × Text). Some (multiple (over number slash t.first) star n)) item t.gave in
-    sym (ap (tree_of_item sign) (same_Some (multiple (over number slash t.first) star u.first) item u.gave))
+    let t = then_parts (read_literal divisor) (λ (l : Literal). read_as_name operand >>= (λ (n : Place × WrittenText). Some (multiple (quotient_of number slash l) star n))) item h in
+    let u = then_parts (read_as_name operand) (λ (n : Place × WrittenText). Some (multiple (quotient_of number slash t.first) star n)) item t.gave in
+    sym (ap (tree_of_item sign) (same_Some (multiple (quotient_of number slash t.first) star u.first) item u.gave))
     ∙ ap₂ (λ (d o : Expr). product_tree sign number ((slash, token.Sign SSlash, d) ∷ (star, token.Sign SStar, o) ∷ [])) (literal_sound divisor t.first t.was) (name_sound operand u.first u.was)
 two_sound sign number slash _ divisor star _ operand item h = cc
 
@@ -228,8 +228,8 @@ constraint_sound : (head : Head) (e : Expr) (statement : Statement) → read_con
 unfolding read_constraint
 constraint_sound head e statement h = constraint_layer head (out-Expr e) statement h ∙ ap (λ (x : Expr). headed head (shape.Subto x)) (roll-out-Expr e)
 
-objective_sound : (maximize : Bool) (head : Head) (e : Expr) (statement : Statement) → read_objective maximize head e ≡ Some statement → HasTree head statement (shape.Goal maximize e)
-unfolding read_objective
+objective_sound : (maximize : Bool) (head : Head) (e : Expr) (statement : Statement) → read_goal maximize head e ≡ Some statement → HasTree head statement (shape.Goal maximize e)
+unfolding read_goal
 objective_sound maximize head e statement h =
     let t = then_parts (read_sum e) (λ (s : Sum). Some (Objective maximize head s)) statement h in
     sym (ap tree_of (same_Some (Objective maximize head t.first) statement t.gave))

@@ -6,12 +6,12 @@ use Rattle.zim_tree.specs.declared.stmt.Stmt.{Stmt}
 use Rattle.zim_plain.specs.declared.statement.Statement as code
 use Rattle.zim_plain.specs.declared.stop.Stop.{Stop}
 use Rattle.zim_plain.specs.declared.stop.Stop.TheVariants.{OutOfMemory, Outside}
-use Rattle.zim_plain.specs.Reader.{statement_of, IsRead, Gives}
+use Rattle.zim_plain.specs.Reader.{statement_said, IsRead, GivesRead}
 use Rattle.zim_plain.specs.Reading.{read_statement}
 use Rattle.zim_plain.proofs.TreeLaws.{reads_statement}
 use Rattle.zim_plain.proofs.ReadSound.{statement_sound}
 
-pub is_read : (stmt : Stmt) (result : Result code.Statement Stop) → Gives statement_of result (read_statement stmt) → IsRead stmt result
-is_read stmt (Ok statement) read = statement_sound stmt (statement_of statement) read
+pub is_read : (stmt : Stmt) (result : Result code.Statement Stop) → GivesRead statement_said result (read_statement stmt) → IsRead stmt result
+is_read stmt (Ok statement) read = statement_sound stmt (statement_said statement) read
 is_read stmt (Err Outside) none = λ form. none-some form.0 (sym none ∙ (sym (ap read_statement form.1) ∙ reads_statement form.0))
 is_read stmt (Err OutOfMemory) free = tt

@@ -14,7 +14,7 @@ use Rattle.zim_tree.specs.Levels.{Operands, products, sums, joined}
 use Rattle.zim_tree.specs.Plain.{replaced}
 use Rattle.zim_tree.specs.PlainStatement.{replaced_statement}
 use Rattle.zim_tree.proofs.ReplacedLaws.{replaced-Number, replaced-Name, replaced-Signed, replaced-Times, replaced-Plus, replaced-Compare}
-use Rattle.zim_plain.specs.Statements.{Literal, Divisor, Coefficient, Factor, Item, Constant, Multiple, SignAt, Further, Sum, Head, Statement, Variable, Objective, Constraint, Model}
+use Rattle.zim_plain.specs.Statements.{Literal, Divisor, Coefficient, Factor, Item, Constant, Multiple, SignAt, Further, Sum, Head, Statement, Variable, Objective, Constraint, PlainModel}
 use Rattle.zim_plain.specs.Trees.{tree_of_literal, with_sign, divisor_operand, tree_of_item, operand_of_further, tree_of_sum, relation_of_sense, headed, tree_of, trees_of}
 use Rattle.zim_plain.proofs.TreeLaws.{one_statement}
 
@@ -137,12 +137,12 @@ pub kept_statement : (put : Place → Place) (s : Statement) → replaced_statem
 kept_statement put s e = one_statement (put_statement put s) s (sym (statement_tree put s) ∙ e)
 
 -- the same of several statements
-pub kept_model : (put : Place → Place) (model : Model) → map (replaced_statement put) (trees_of model) ≡ trees_of model → map (put_statement put) model ≡ model
+pub kept_model : (put : Place → Place) (model : PlainModel) → map (replaced_statement put) (trees_of model) ≡ trees_of model → map (put_statement put) model ≡ model
 kept_model put [] e = refl
 kept_model put (s ∷ model) e =
     let first : replaced_statement put (tree_of s) ≡ tree_of s = cc in
     let rest : map (replaced_statement put) (trees_of model) ≡ trees_of model = cc in
-    ap₂ (λ (t : Statement) (m : Model). t ∷ m) (kept_statement put s first) (kept_model put model rest)
+    ap₂ (λ (t : Statement) (m : PlainModel). t ∷ m) (kept_statement put s first) (kept_model put model rest)
 
 -- a map of places that keeps trees keeps each of them
 pub kept_among : (put : Place → Place) (before : List Stmt) (stmt : Stmt) (after : List Stmt) → map (replaced_statement put) (before ++ stmt ∷ after) ≡ before ++ stmt ∷ after → replaced_statement put stmt ≡ stmt

@@ -11,16 +11,16 @@ use Rattle.zim_tree.specs.declared.expr.Expr.TheVariants as tree
 use Rattle.zim_tree.specs.Levels.{Operands}
 use Rattle.zim_rows.specs.declared.rows.Sense.{Sense}
 use Rattle.zim_rows.specs.declared.rows.Sense.TheVariants.{AtMost, AtLeast, Equal}
-use Rattle.zim_plain.specs.Statements.{Text, Literal, Divisor, Coefficient, Item, Constant, Multiple, SignAt, Further, Sum, Head, Statement, Variable, Objective, Constraint}
+use Rattle.zim_plain.specs.Statements.{WrittenText, Literal, Divisor, Coefficient, Item, Constant, Multiple, SignAt, Further, Sum, Head, Statement, Variable, Objective, Constraint}
 use Rattle.zim_plain.specs.Trees.{tree_of_literal, with_sign, divisor_operand, tree_of_item, operand_of_further, tree_of_sum, relation_of_sense, tree_of}
-use Rattle.zim_plain.specs.Reading.{◌>>=◌, literal_in, name_in, signed_in, operand_in, item_in, sum_in, constraint_in, read_literal, read_name, read_signed, read_product, read_operand, operand_item, product_item, read_item, read_sign, unsigned, read_further, read_others, sum_of_items, read_sum, read_sense, read_constraint, read_objective, read_statement}
+use Rattle.zim_plain.specs.Reading.{◌>>=◌, literal_in, named_layer, signed_in, operand_in, item_in, sum_in, constraint_in, read_literal, read_as_name, read_signed, read_product, read_operand, operand_item, product_item, read_item, read_sign, unsigned, read_further, read_others, sum_of_items, read_sum, read_sense, read_constraint, read_goal, read_statement}
 
 -- ---- the trees, opened
 
-at_number : (place : Place) (text : Text) → out-Expr (tree.Number place text) ≡ Expr-F.Number place text
+at_number : (place : Place) (text : WrittenText) → out-Expr (tree.Number place text) ≡ Expr-F.Number place text
 at_number place text = ap out-Expr (sym (tree.rolls-Number place text)) ∙ out-roll-Expr (Expr-F.Number place text)
 
-at_name : (place : Place) (name : Text) → out-Expr (tree.Name place name) ≡ Expr-F.Name place name
+at_name : (place : Place) (name : WrittenText) → out-Expr (tree.Name place name) ≡ Expr-F.Name place name
 at_name place name = ap out-Expr (sym (tree.rolls-Name place name)) ∙ out-roll-Expr (Expr-F.Name place name)
 
 at_signed : (place : Place) (negative : Bool) (operand : Expr) → out-Expr (tree.Signed place negative operand) ≡ Expr-F.Signed place negative operand
@@ -41,16 +41,16 @@ reads_literal : (literal : Literal) → read_literal (tree_of_literal literal) �
 unfolding read_literal
 reads_literal literal = ap literal_in (at_number literal.place literal.text)
 
-reads_name : (place : Place) (name : Text) → read_name (tree.Name place name) ≡ Some (place, name)
-unfolding read_name
-reads_name place name = ap name_in (at_name place name)
+reads_name : (place : Place) (name : WrittenText) → read_as_name (tree.Name place name) ≡ Some (place, name)
+unfolding read_as_name
+reads_name place name = ap named_layer (at_name place name)
 
 signed_number : (sign : Option SignAt) (literal : Literal) → read_signed (with_sign sign (tree_of_literal literal)) ≡ (sign, tree_of_literal literal)
 unfolding read_signed
 signed_number None literal = ap (signed_in (tree_of_literal literal)) (at_number literal.place literal.text)
 signed_number (Some sign) literal = ap (signed_in (with_sign (Some sign) (tree_of_literal literal))) (at_signed sign.place sign.negative (tree_of_literal literal))
 
-signed_name : (sign : Option SignAt) (place : Place) (name : Text) → read_signed (with_sign sign (tree.Name place name)) ≡ (sign, tree.Name place name)
+signed_name : (sign : Option SignAt) (place : Place) (name : WrittenText) → read_signed (with_sign sign (tree.Name place name)) ≡ (sign, tree.Name place name)
 unfolding read_signed
 signed_name None place name = ap (signed_in (tree.Name place name)) (at_name place name)
 signed_name (Some sign) place name = ap (signed_in (with_sign (Some sign) (tree.Name place name))) (at_signed sign.place sign.negative (tree.Name place name))
@@ -70,12 +70,12 @@ reads_number sign literal =
     ∙ ap (λ (o : Option Item). o >>= (λ (i : Item). Some (sign, i))) (ap operand_in (at_number literal.place literal.text))
 
 -- a name alone
-name_item : (sign : Option SignAt) (place : Place) (name : Text) → read_item (with_sign sign (tree.Name place name)) ≡ operand_item (read_signed (with_sign sign (tree.Name place name)))
+name_item : (sign : Option SignAt) (place : Place) (name : WrittenText) → read_item (with_sign sign (tree.Name place name)) ≡ operand_item (read_signed (with_sign sign (tree.Name place name)))
 unfolding read_item
 name_item None place name = ap (item_in (tree.Name place name)) (at_name place name)
 name_item (Some sign) place name = ap (item_in (with_sign (Some sign) (tree.Name place name))) (at_signed sign.place sign.negative (tree.Name place name))
 
-reads_variable : (sign : Option SignAt) (place : Place) (name : Text) → read_item (with_sign sign (tree.Name place name)) ≡ Some (sign, Multiple None place name)
+reads_variable : (sign : Option SignAt) (place : Place) (name : WrittenText) → read_item (with_sign sign (tree.Name place name)) ≡ Some (sign, Multiple None place name)
 unfolding read_operand
 reads_variable sign place name =
     name_item sign place name ∙ ap operand_item (signed_name sign place name)
@@ -94,7 +94,7 @@ divided : (number : Literal) (divisor : Divisor) → read_product number (diviso
 unfolding read_product
 divided number divisor = ap (λ (o : Option Literal). o >>= (λ (l : Literal). Some (Constant (record { number = number; divisor = Some (record { slash = divisor.slash; literal = l }) })))) (reads_literal divisor.literal)
 
-multiplied : (coefficient : Coefficient) (star place : Place) (name : Text) →
+multiplied : (coefficient : Coefficient) (star place : Place) (name : WrittenText) →
     read_product coefficient.number (divisor_operand coefficient.divisor ++ (star, token.Sign SStar, tree.Name place name) ∷ []) ≡ Some (Multiple (Some (record { coefficient = coefficient; star = star })) place name)
 unfolding read_product
 multiplied coefficient star place name = by_divisor coefficient.number coefficient.divisor
@@ -102,10 +102,10 @@ multiplied coefficient star place name = by_divisor coefficient.number coefficie
     by_divisor : (number : Literal) (divisor : Option Divisor) →
         read_product number (divisor_operand divisor ++ (star, token.Sign SStar, tree.Name place name) ∷ []) ≡ Some (Multiple (Some (record { coefficient = record { number = number; divisor = divisor }; star = star })) place name)
     by_divisor number None =
-        ap (λ (o : Option (Place × Text)). o >>= (λ (n : Place × Text). Some (Multiple (Some (record { coefficient = record { number = number; divisor = None }; star = star })) n.0 n.1))) (reads_name place name)
+        ap (λ (o : Option (Place × WrittenText)). o >>= (λ (n : Place × WrittenText). Some (Multiple (Some (record { coefficient = record { number = number; divisor = None }; star = star })) n.0 n.1))) (reads_name place name)
     by_divisor number (Some divisor) =
-        ap (λ (o : Option Literal). o >>= (λ (l : Literal). read_name (tree.Name place name) >>= (λ (n : Place × Text). Some (Multiple (Some (record { coefficient = record { number = number; divisor = Some (record { slash = divisor.slash; literal = l }) }; star = star })) n.0 n.1)))) (reads_literal divisor.literal)
-        ∙ ap (λ (o : Option (Place × Text)). o >>= (λ (n : Place × Text). Some (Multiple (Some (record { coefficient = record { number = number; divisor = Some divisor }; star = star })) n.0 n.1))) (reads_name place name)
+        ap (λ (o : Option Literal). o >>= (λ (l : Literal). read_as_name (tree.Name place name) >>= (λ (n : Place × WrittenText). Some (Multiple (Some (record { coefficient = record { number = number; divisor = Some (record { slash = divisor.slash; literal = l }) }; star = star })) n.0 n.1)))) (reads_literal divisor.literal)
+        ∙ ap (λ (o : Option (Place × WrittenText)). o >>= (λ (n : Place × WrittenText). Some (Multiple (Some (record { coefficient = record { number = number; divisor = Some divisor }; star = star })) n.0 n.1))) (reads_name place name)
 
 -- an item is read back
 reads_item : (sign : Option SignAt) (item : Item) → read_item (tree_of_item sign item) ≡ Some (sign, item)
@@ -150,7 +150,7 @@ unfolding read_sum
 number_alone None literal = ap (sum_in (tree_of_literal literal)) (at_number literal.place literal.text)
 number_alone (Some sign) literal = ap (sum_in (with_sign (Some sign) (tree_of_literal literal))) (at_signed sign.place sign.negative (tree_of_literal literal))
 
-name_alone : (sign : Option SignAt) (place : Place) (name : Text) → read_sum (with_sign sign (tree.Name place name)) ≡ alone (with_sign sign (tree.Name place name))
+name_alone : (sign : Option SignAt) (place : Place) (name : WrittenText) → read_sum (with_sign sign (tree.Name place name)) ≡ alone (with_sign sign (tree.Name place name))
 unfolding read_sum
 name_alone None place name = ap (sum_in (tree.Name place name)) (at_name place name)
 name_alone (Some sign) place name = ap (sum_in (with_sign (Some sign) (tree.Name place name))) (at_signed sign.place sign.negative (tree.Name place name))
@@ -201,8 +201,8 @@ reads_constraint head left sense at right =
     ∙ ap (λ (o : Option Sense). o >>= (λ (s : Sense). read_sum (tree_of_sum right) >>= (λ (r : Sum). Some (Constraint head left s at r)))) (reads_sense sense)
     ∙ ap (λ (o : Option Sum). o >>= (λ (r : Sum). Some (Constraint head left sense at r))) (reads_sum right)
 
-reads_objective : (maximize : Bool) (head : Head) (sum : Sum) → read_objective maximize head (tree_of_sum sum) ≡ Some (Objective maximize head sum)
-unfolding read_objective
+reads_objective : (maximize : Bool) (head : Head) (sum : Sum) → read_goal maximize head (tree_of_sum sum) ≡ Some (Objective maximize head sum)
+unfolding read_goal
 reads_objective maximize head sum = ap (λ (o : Option Sum). o >>= (λ (s : Sum). Some (Objective maximize head s))) (reads_sum sum)
 
 -- a statement is read back

@@ -18,7 +18,7 @@ use Rattle.zim_tree.specs.StatementGrammar.{ReadsStatement, LimitsKept, goal_wor
 use Rattle.zim_tree.specs.StatementSpelling.{spelled_of}
 use Rattle.zim_tree.proofs.DerivationSpellingLaws.{tokens, tokens-append}
 use Rattle.zim_tree.proofs.StatementSpellingLaws.{statement-spelling}
-use Rattle.zim_plain.specs.Statements.{Text, Literal, Divisor, Item, Constant, Multiple, SignAt, Further, Sum, Statement, Variable, Objective, Constraint, head_of}
+use Rattle.zim_plain.specs.Statements.{WrittenText, Literal, Divisor, Item, Constant, Multiple, SignAt, Further, Sum, Statement, Variable, Objective, Constraint, head_of}
 use Rattle.zim_plain.specs.Trees.{tree_of_literal, with_sign, divisor_operand, tree_of_item, operand_of_further, tree_of_sum, relation_of_sense, tree_of}
 use Rattle.zim_plain.specs.Written.{written_divisor, written_item, written_first_sign, written_further, written_list, written, Writing}
 
@@ -29,7 +29,7 @@ abbrev pub number_at : Literal → Placed
 number_at literal = placed literal.place (number_token literal.text)
 
 -- a name
-abbrev pub name_at : Place → Text → Placed
+abbrev pub name_at : Place → WrittenText → Placed
 name_at place name = placed place (name_token name)
 
 -- a plus or a minus
@@ -157,7 +157,7 @@ constant-reads (Some divisor) =
     an_operand products divisor.slash (sign_token SSlash) refl (signed None (number-reads divisor.literal)) (no_operand products)
 
 -- a star and a name
-variable-reads : (star place : Place) (name : Text) →
+variable-reads : (star place : Place) (name : WrittenText) →
     ReadsOperands products (placed star (sign_token SStar) ∷ name_at place name ∷ []) ((star, sign_token SStar, tree.Name place name) ∷ [])
 variable-reads star place name = an_operand products star (sign_token SStar) refl (signed None (a_name place name)) (no_operand products)
 

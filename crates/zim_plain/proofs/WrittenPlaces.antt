@@ -15,7 +15,7 @@ use Rattle.zim_tree.specs.StatementGrammar.{ReadsStatement, goal_word}
 use Rattle.zim_tree.specs.Spelling.{Tokens}
 use Rattle.zim_tree.proofs.DerivationSpellingLaws.{tokens}
 use Rattle.zim_tree.proofs.StatementSpellingLaws.{statement-spelling}
-use Rattle.zim_plain.specs.Statements.{Text, Literal, Divisor, Item, Constant, Multiple, SignAt, Further, Sum, Head, Statement, Variable, Objective, Constraint}
+use Rattle.zim_plain.specs.Statements.{WrittenText, Literal, Divisor, Item, Constant, Multiple, SignAt, Further, Sum, Head, Statement, Variable, Objective, Constraint}
 use Rattle.zim_plain.specs.Trees.{tree_of}
 use Rattle.zim_plain.specs.Written.{written_divisor, written_item, written_first_sign, written_further, written_list, written_relation, written, IsWrittenInPlainForm, IsReadInPlainForm}
 use Rattle.zim_plain.proofs.WrittenLaws.{number_at, sign_at, first_sign_at, divisor_at, item_at, further_at, list_at, relation_at, statement_at, statement-reads, spelled_as_written}
@@ -136,7 +136,7 @@ abbrev whole_at : Whole → List Placed
 whole_at w = statement_at w.colon w.end w.statement
 
 -- a first word and a name at these places
-abbrev headed : Place → Place → Text → Head
+abbrev headed : Place → Place → WrittenText → Head
 headed word at name = record { word = word; at = at; name = name }
 
 -- a `subto`, whose tokens are grouped to the right

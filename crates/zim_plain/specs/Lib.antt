@@ -1,4 +1,5 @@
 pub mod Statements
+pub mod Asks
 pub mod Trees
 pub mod Reading
 pub mod Written

@@ -6,12 +6,12 @@ use Rattle.zim_fault.specs.declared.faults.Fault.{Fault}
 use Rattle.zim_rational.specs.Rational as rational
 use Rattle.zim_rational.specs.Rational.{Rational, plus, one}
 use Rattle.zim_fraction.specs.Limit.{is_number, is_sum_within}
-use Rattle.zim_linear.specs.Forms.{Term, LinearForm, Assignment, AreTerms, AreColumns, sum_at, number_at}
+use Rattle.zim_linear.specs.Forms.{Term, LinearForm, ColumnNumbers, AreTerms, AreColumns, sum_at, number_at}
 use Rattle.zim_linear.specs.declared.faults.LinFault.{LinFault}
 use Rattle.zim_linear.specs.declared.faults.LinFault.TheVariants.{Past, Memory}
-use Rattle.zim_rows.specs.Scaled.{first_of}
+use Rattle.zim_rows.specs.Scaled.{earlier_fault}
 use Rattle.zim_plain.specs.declared.parts.Part.{Part}
-use Rattle.zim_plain.specs.Statements.{Text, Item, Constant, Multiple, Further}
+use Rattle.zim_plain.specs.Statements.{WrittenText, Item, Constant, Multiple, Further}
 use Rattle.zim_plain.specs.Faults.{amount, past_unless}
 use Rattle.zim_plain.specs.Systems.{column_of_name}
 
@@ -22,24 +22,24 @@ abbrev pub part_term : Part → Term
 part_term part = (unwrap_or part.column 0, part.amount)
 
 -- The column of an item's name; a number has none.
-abbrev pub item_column : List Text → Item → Option ℕ
+abbrev pub item_column : List WrittenText → Item → Option ℕ
 item_column names (Constant coefficient) = None
 item_column names (Multiple factor place name) = Some (column_of_name names name)
 
 -- An item with its sign as a term, a number being one of column 0.
-abbrev pub item_term : List Text → Bool × Item → Term
+abbrev pub item_term : List WrittenText → Bool × Item → Term
 item_term names item = (unwrap_or (item_column names item.1) 0, amount item)
 
 -- The part of an item behind an operator at a place.
-abbrev pub part_at : List Text → Place → Bool → Item → Part
+abbrev pub part_at : List WrittenText → Place → Bool → Item → Part
 part_at names place negative item = record { place = place; column = item_column names item; amount = amount (negative, item) }
 
 -- The part of an item behind others.
-abbrev pub part_of : List Text → Further → Part
-part_of names further = part_at names further.sign.place further.sign.negative further.item
+abbrev pub part_behind : List WrittenText → Further → Part
+part_behind names further = part_at names further.sign.place further.sign.negative further.item
 
 -- What each column is where column 0 is 1.
-abbrev pub with_one : Assignment → Assignment
+abbrev pub with_one : ColumnNumbers → ColumnNumbers
 with_one x zero = one
 with_one x (suc j) = x (suc j)
 
@@ -52,7 +52,7 @@ sum_of_column j so_far (t ∷ ts) = sum_of_column j (if nat_eq t.0 j then plus s
 unfoldable pub parts_fault : List Term → List Part → Option Fault
 parts_fault before [] = None
 parts_fault before (p ∷ ps) =
-    first_of
+    earlier_fault
     (past_unless (is_sum_within (sum_of_column (unwrap_or p.column 0) rational.zero before) p.amount) p.place)
     (parts_fault (before ++ part_term p ∷ []) ps)
 
@@ -82,14 +82,14 @@ abbrev pub IsPartUpTo : ℕ → Part → Type 0
 IsPartUpTo n part = IfSome part.column (λ j. j ≤ n)
 
 -- A form in order that has this number at every assignment, over the columns that these parts have.
-pub record IsFormOf (parts : List Part) (number : Assignment → Rational) (form : LinearForm) : Type 0 where
-  pub is : (x : Assignment) → number_at x form ≡ number x
+pub record IsFormOf (parts : List Part) (number : ColumnNumbers → Rational) (form : LinearForm) : Type 0 where
+  pub is : (x : ColumnNumbers) → number_at x form ≡ number x
   pub terms : AreTerms form.terms
   pub columns : (n : ℕ) → AllByRecursion (IsPartUpTo n) parts → AreColumns n form.terms
   pub within : AreNumbers form
 
 -- The number of parts where each column is what an assignment says.
-unfoldable pub parts_number : List Part → Assignment → Rational
+unfoldable pub parts_number : List Part → ColumnNumbers → Rational
 parts_number parts x = sum_at (with_one x) (map part_term parts)
 
 -- The form of a part. Want of memory is free.
@@ -101,7 +101,7 @@ PartFormAnswer part (Err Memory) = Unit {0}
 -- A part was added to a form, or the sum of its column is past. Want of memory is free.
 pub record IsAdded (old : LinearForm) (part : Part) (new : LinearForm) : Type 0 where
   pub sum_within : IsTrue (is_sum_within (coefficient_at old (unwrap_or part.column 0)) part.amount)
-  pub is : (x : Assignment) → number_at x new ≡ plus (number_at x old) (parts_number (part ∷ []) x)
+  pub is : (x : ColumnNumbers) → number_at x new ≡ plus (number_at x old) (parts_number (part ∷ []) x)
   pub terms : AreTerms new.terms
   pub columns : (n : ℕ) → AreColumns n old.terms → IsPartUpTo n part → AreColumns n new.terms
   pub within : AreNumbers new

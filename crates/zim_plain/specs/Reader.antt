@@ -21,57 +21,57 @@ abbrev pub divisor_of : code.Divisor.Divisor → Divisor
 divisor_of d = record { slash = d.slash; literal = literal_of d.literal }
 
 -- A coefficient of the code.
-abbrev pub coefficient_of : code.Coefficient.Coefficient → Coefficient
-coefficient_of c = record { number = literal_of c.number; divisor = option_map divisor_of c.divisor }
+abbrev pub coefficient_said : code.Coefficient.Coefficient → Coefficient
+coefficient_said c = record { number = literal_of c.number; divisor = option_map divisor_of c.divisor }
 
 -- A factor of the code.
-abbrev pub factor_of : code.Factor.Factor → Factor
-factor_of f = record { coefficient = coefficient_of f.coefficient; star = f.star }
+abbrev pub factor_said : code.Factor.Factor → Factor
+factor_said f = record { coefficient = coefficient_said f.coefficient; star = f.star }
 
 -- An item of the code.
 abbrev pub item_of : code.Item.Item → Item
-item_of (listed.Constant c) = Constant (coefficient_of c)
-item_of (listed.Multiple factor place name) = Multiple (option_map factor_of factor) place name.now
+item_of (listed.Constant c) = Constant (coefficient_said c)
+item_of (listed.Multiple factor place name) = Multiple (option_map factor_said factor) place name.now
 
 -- A plus or a minus of the code.
-abbrev pub sign_of : code.SignAt.SignAt → SignAt
-sign_of s = record { place = s.place; negative = s.negative }
+abbrev pub sign_said : code.SignAt.SignAt → SignAt
+sign_said s = record { place = s.place; negative = s.negative }
 
 -- A further item of the code.
 abbrev pub further_of : code.Further.Further → Further
-further_of f = record { sign = sign_of f.sign; item = item_of f.item }
+further_of f = record { sign = sign_said f.sign; item = item_of f.item }
 
 -- A list of the code.
-abbrev pub sum_of : code.Sum.Sum → Sum
-sum_of s = record { sign = option_map sign_of s.sign; first = item_of s.first; others = map further_of s.others.items }
+abbrev pub sum_said : code.Sum.Sum → Sum
+sum_said s = record { sign = option_map sign_said s.sign; first = item_of s.first; others = map further_of s.others.items }
 
 -- A statement's first word and name in the code.
 abbrev pub heading_of : code.Head.Head → Head
 heading_of h = record { word = h.word; at = h.at; name = h.name.now }
 
 -- A statement of the code.
-abbrev pub statement_of : code.Statement.Statement → Statement
-statement_of (said.Variable head) = Variable (heading_of head)
-statement_of (said.Objective maximize head sum) = Objective maximize (heading_of head) (sum_of sum)
-statement_of (said.Constraint head left sense at right) = Constraint (heading_of head) (sum_of left) sense at (sum_of right)
+abbrev pub statement_said : code.Statement.Statement → Statement
+statement_said (said.Variable head) = Variable (heading_of head)
+statement_said (said.Objective maximize head sum) = Objective maximize (heading_of head) (sum_said sum)
+statement_said (said.Constraint head left sense at right) = Constraint (heading_of head) (sum_said left) sense at (sum_said right)
 
 -- The tree is that of the statement; where there is none, the tree is of no plain form. Want of memory is free.
 abbrev pub IsRead : Stmt → Result code.Statement.Statement Stop → Type 0
-IsRead stmt (Ok statement) = tree_of (statement_of statement) ≡ stmt
+IsRead stmt (Ok statement) = tree_of (statement_said statement) ≡ stmt
 IsRead stmt (Err Outside) = ¬ IsOfPlainForm stmt
 IsRead stmt (Err OutOfMemory) = Unit {0}
 
 -- The function found what reading gives, seen by a view, or stopped where reading gives nothing.
-abbrev pub Finds : {X Y : Type 0} → (X → Y) → Result X NotPlain → Option Y → Type 0
-Finds view (Ok x) read = read ≡ Some (view x)
-Finds view (Err e) read = read ≡ None
+abbrev pub FindsRead : {X Y : Type 0} → (X → Y) → Result X NotPlain → Option Y → Type 0
+FindsRead view (Ok x) read = read ≡ Some (view x)
+FindsRead view (Err e) read = read ≡ None
 
 -- The same of a function that may also be refused memory, of which nothing is said.
-abbrev pub Stops : {Y : Type 0} → Stop → Option Y → Type 0
-Stops OutOfMemory read = Unit {0}
-Stops Outside read = read ≡ None
+abbrev pub StopsRead : {Y : Type 0} → Stop → Option Y → Type 0
+StopsRead OutOfMemory read = Unit {0}
+StopsRead Outside read = read ≡ None
 
 -- The function found what reading gives, seen by a view, or stopped.
-abbrev pub Gives : {X Y : Type 0} → (X → Y) → Result X Stop → Option Y → Type 0
-Gives view (Ok x) read = read ≡ Some (view x)
-Gives view (Err e) read = Stops e read
+abbrev pub GivesRead : {X Y : Type 0} → (X → Y) → Result X Stop → Option Y → Type 0
+GivesRead view (Ok x) read = read ≡ Some (view x)
+GivesRead view (Err e) read = StopsRead e read

@@ -16,7 +16,7 @@ use Rattle.zim_tree.specs.declared.stmt.Shape.TheVariants as shape
 use Rattle.zim_tree.specs.Levels.{Operands}
 use Rattle.zim_rows.specs.declared.rows.Sense.{Sense}
 use Rattle.zim_rows.specs.declared.rows.Sense.TheVariants.{AtMost, AtLeast, Equal}
-use Rattle.zim_plain.specs.Statements.{Text, Literal, Coefficient, Item, Constant, Multiple, SignAt, Further, Sum, Head, Statement, Variable, Objective, Constraint}
+use Rattle.zim_plain.specs.Statements.{WrittenText, Literal, Coefficient, Item, Constant, Multiple, SignAt, Further, Sum, Head, Statement, Variable, Objective, Constraint}
 
 infixl 10 ◌>>=◌
 -- A step after what was read, if something was.
@@ -40,13 +40,13 @@ unfoldable pub read_literal : Expr → Option Literal
 read_literal e = literal_in (out-Expr e)
 
 -- A name, with its place.
-abbrev pub name_in : Layer → Option (Place × Text)
-name_in (Expr-F.Name place name) = Some (place, name)
-name_in _ = None
+abbrev pub named_layer : Layer → Option (Place × WrittenText)
+named_layer (Expr-F.Name place name) = Some (place, name)
+named_layer _ = None
 
 -- An expression that is a name, with its place.
-unfoldable pub read_name : Expr → Option (Place × Text)
-read_name e = name_in (out-Expr e)
+unfoldable pub read_as_name : Expr → Option (Place × WrittenText)
+read_as_name e = named_layer (out-Expr e)
 
 -- The sign before an operand, if it has one, and the operand without it.
 abbrev pub signed_in : Expr → Layer → Option SignAt × Expr
@@ -60,20 +60,20 @@ read_signed e = signed_in e (out-Expr e)
 -- ---- items
 
 -- A number over another.
-abbrev pub over : Literal → Place → Literal → Coefficient
-over number slash literal = record { number = number; divisor = Some (record { slash = slash; literal = literal }) }
+abbrev pub quotient_of : Literal → Place → Literal → Coefficient
+quotient_of number slash literal = record { number = number; divisor = Some (record { slash = slash; literal = literal }) }
 
 -- A coefficient times a variable.
-abbrev pub multiple : Coefficient → Place → Place × Text → Item
+abbrev pub multiple : Coefficient → Place → Place × WrittenText → Item
 multiple coefficient star name = Multiple (Some (record { coefficient = coefficient; star = star })) name.0 name.1
 
 -- A number with one operand behind it: a divisor, or a name.
 abbrev pub behind_one : Literal → Place → Token → Expr → Option Item
 behind_one number slash (token.Sign SSlash) divisor = do
   literal ← read_literal divisor
-  Some (Constant (over number slash literal))
+  Some (Constant (quotient_of number slash literal))
 behind_one number star (token.Sign SStar) operand = do
-  name ← read_name operand
+  name ← read_as_name operand
   Some (multiple (record { number = number; divisor = None }) star name)
 behind_one number place _ operand = None
 
@@ -81,14 +81,14 @@ behind_one number place _ operand = None
 abbrev pub behind_two : Literal → Place → Token → Expr → Place → Token → Expr → Option Item
 behind_two number slash (token.Sign SSlash) divisor star (token.Sign SStar) operand = do
   literal ← read_literal divisor
-  name ← read_name operand
-  Some (multiple (over number slash literal) star name)
+  name ← read_as_name operand
+  Some (multiple (quotient_of number slash literal) star name)
 behind_two number slash _ divisor star _ operand = None
 
 -- A number with operands behind it.
 unfoldable pub read_product : Literal → Operands → Option Item
 read_product number ((place, token, operand) ∷ []) = behind_one number place token operand
-read_product number ((slash, over, divisor) ∷ (star, times, operand) ∷ []) = behind_two number slash over divisor star times operand
+read_product number ((slash, quotient_of, divisor) ∷ (star, times, operand) ∷ []) = behind_two number slash quotient_of divisor star times operand
 read_product number _ = None
 
 -- A number alone, or a name alone.
@@ -194,15 +194,15 @@ unfoldable pub read_constraint : Head → Expr → Option Statement
 read_constraint head e = constraint_in head (out-Expr e)
 
 -- An objective of this name.
-unfoldable pub read_objective : Bool → Head → Expr → Option Statement
-read_objective maximize head e = do
+unfoldable pub read_goal : Bool → Head → Expr → Option Statement
+read_goal maximize head e = do
   sum ← read_sum e
   Some (Objective maximize head sum)
 
 -- What a statement of this name says.
 abbrev pub shape_of : Head → Shape → Option Statement
 shape_of head (shape.Var None None [] None None) = Some (Variable head)
-shape_of head (shape.Goal maximize objective) = read_objective maximize head objective
+shape_of head (shape.Goal maximize objective) = read_goal maximize head objective
 shape_of head (shape.Subto condition) = read_constraint head condition
 shape_of head _ = None
 

@@ -6,22 +6,22 @@ use Rattle.zim_fault.specs.declared.faults.Place.{Place}
 use Rattle.zim_fault.specs.declared.faults.Fault.{Fault}
 use Rattle.zim_rational.specs.Rational.{Rational, minus}
 use Rattle.zim_fraction.specs.Limit.{is_number}
-use Rattle.zim_linear.specs.Forms.{LinearForm, Assignment}
+use Rattle.zim_linear.specs.Forms.{LinearForm, ColumnNumbers}
 use Rattle.zim_linear.specs.declared.faults.LinFault.{LinFault}
 use Rattle.zim_linear.specs.declared.faults.LinFault.TheVariants.{Past, Memory}
 use Rattle.zim_fault.specs.declared.kinds.Kind.TheVariants as kind
-use Rattle.zim_rows.specs.Scaled.{first_of}
+use Rattle.zim_rows.specs.Scaled.{earlier_fault}
 use Rattle.zim_plain.specs.declared.parts.Part.{Part}
 use Rattle.zim_plain.specs.declared.parts.Side.{Side}
 use Rattle.zim_plain.specs.declared.parts.Side.TheVariants.{Known, Parts}
 use Rattle.zim_plain.specs.declared.stop.PlainStop.{PlainStop}
 use Rattle.zim_plain.specs.declared.stop.PlainStop.TheVariants as stopped
-use Rattle.zim_plain.specs.Statements.{Text, Item, Constant, Multiple, Further, Sum, first_negative}
+use Rattle.zim_plain.specs.Statements.{WrittenText, Item, Constant, Multiple, Further, Sum, first_negative}
 use Rattle.zim_plain.specs.Meaning.{coefficient_number, factor_number, sum_number}
 use Rattle.zim_plain.specs.Suits.{SuitsCoefficient, SuitsFactor, SuitsItem}
-use Rattle.zim_plain.specs.Faults.{fault_at, item_fault, items_fault, names_variable, numbers_fault, adding_fault, difference_fault}
+use Rattle.zim_plain.specs.Faults.{fault_at, item_fault, items_fault, has_variable, numbers_fault, adding_fault, difference_fault}
 use Rattle.zim_plain.specs.Systems.{IsForm}
-use Rattle.zim_plain.specs.Parts.{part_at, part_of, IsPart, IsFormOf, parts_fault, parts_number}
+use Rattle.zim_plain.specs.Parts.{part_at, part_behind, IsPart, IsFormOf, parts_fault, parts_number}
 
 -- A number, or the first fault of those that are met on the way to it.
 abbrev pub NumberAnswer : Option Fault → Rational → Result Rational Fault → Type 0
@@ -34,7 +34,7 @@ starts_with_sign [] = false
 starts_with_sign (first ∷ rest) = first == 43 || first == 45
 
 -- The name of an item is declared, if it has one.
-abbrev pub IsDeclared : List Text → Item → Type 0
+abbrev pub IsDeclared : List WrittenText → Item → Type 0
 IsDeclared names (Constant coefficient) = Unit {0}
 IsDeclared names (Multiple factor place name) = Contains names name
 
@@ -44,7 +44,7 @@ SuitsNumbers (Constant coefficient) = SuitsCoefficient coefficient
 SuitsNumbers (Multiple factor place name) = SuitsFactor factor
 
 -- Further items have numbers that are such and declared names, or none.
-abbrev pub SuitOthers : List Text → List Further → Type 0
+abbrev pub SuitOthers : List WrittenText → List Further → Type 0
 SuitOthers names others = AllByRecursion (λ (f : Further). SuitsItem names (false, f.item)) others
 
 -- The number of an item without its sign, or the coefficient of its name.
@@ -64,28 +64,28 @@ MadeAnswer fault Is (Err (stopped.Fault met)) = fault ≡ Some met
 MadeAnswer fault Is (Err stopped.Memory) = Unit {0}
 
 -- The parts of a list: those of its items, in order.
-abbrev pub ArePartsOf : List Text → Sum → List Part → Type 0
+abbrev pub ArePartsOf : List WrittenText → Sum → List Part → Type 0
 ArePartsOf names sum [] = ⊥
 ArePartsOf names sum (first ∷ others) =
-    (first ≡ part_at names first.place (first_negative sum.sign) sum.first) × (others ≡ map (part_of names) sum.others)
+    (first ≡ part_at names first.place (first_negative sum.sign) sum.first) × (others ≡ map (part_behind names) sum.others)
 
 -- A vector has them, and each is a number or a multiple of a column.
-abbrev pub HavePartsOf : List Text → Sum → Vec Part → Type 0
+abbrev pub HavePartsOf : List WrittenText → Sum → Vec Part → Type 0
 HavePartsOf names sum parts = ArePartsOf names sum parts.items × AllByRecursion IsPart parts.items
 
 -- The first number of a list that is past.
 abbrev pub parts_numbers_fault : Sum → Option Fault
-parts_numbers_fault sum = first_of (item_fault sum.first) (items_fault sum.others)
+parts_numbers_fault sum = earlier_fault (item_fault sum.first) (items_fault sum.others)
 
 -- The number of a list that names no variable, or its first number or sum that is past.
 abbrev pub KnownAnswer : Sum → Result Rational Fault → Type 0
-KnownAnswer sum (Ok q) = (numbers_fault sum ≡ None) × ((x : Text → Rational) → sum_number x sum ≡ q) × IsTrue (is_number q)
+KnownAnswer sum (Ok q) = (numbers_fault sum ≡ None) × ((x : WrittenText → Rational) → sum_number x sum ≡ q) × IsTrue (is_number q)
 KnownAnswer sum (Err met) = numbers_fault sum ≡ Some met
 
 -- What was read of a list: its number where it names no variable, else its parts.
-abbrev pub IsSideOf : List Text → Sum → Side → Type 0
-IsSideOf names sum (Known q) = (names_variable sum ≡ false) × ((x : Text → Rational) → sum_number x sum ≡ q) × IsTrue (is_number q)
-IsSideOf names sum (Parts parts) = (names_variable sum ≡ true) × ArePartsOf names sum parts.items × AllByRecursion IsPart parts.items
+abbrev pub IsSideOf : List WrittenText → Sum → Side → Type 0
+IsSideOf names sum (Known q) = (has_variable sum ≡ false) × ((x : WrittenText → Rational) → sum_number x sum ≡ q) × IsTrue (is_number q)
+IsSideOf names sum (Parts parts) = (has_variable sum ≡ true) × ArePartsOf names sum parts.items × AllByRecursion IsPart parts.items
 
 -- What was read is a number or parts.
 abbrev pub IsSide : Side → Type 0
@@ -103,7 +103,7 @@ side_fault (Known q) = None
 side_fault (Parts parts) = parts_fault [] parts.items
 
 -- Its number at an assignment.
-abbrev pub side_number : Side → Assignment → Rational
+abbrev pub side_number : Side → ColumnNumbers → Rational
 side_number (Known q) x = q
 side_number (Parts parts) x = parts_number parts.items x
 
@@ -113,19 +113,19 @@ IsSideForm side form = IsFormOf (side_parts side) (side_number side) form
 
 -- The first fault of a list: of its numbers, then of its sums.
 abbrev pub list_fault : Sum → Option Fault
-list_fault sum = first_of (numbers_fault sum) (adding_fault sum)
+list_fault sum = earlier_fault (numbers_fault sum) (adding_fault sum)
 
 -- A form of a list.
-abbrev pub IsListForm : List Text → Sum → LinearForm → Type 0
+abbrev pub IsListForm : List WrittenText → Sum → LinearForm → Type 0
 IsListForm names sum form = IsForm names (λ x. sum_number x sum) form
 
 -- The first fault of two lists and their difference.
 abbrev pub row_fault : Sum → Place → Sum → Option Fault
 row_fault left at right =
-    first_of (numbers_fault left) (first_of (numbers_fault right) (first_of (adding_fault left) (first_of (adding_fault right) (difference_fault left at right))))
+    earlier_fault (numbers_fault left) (earlier_fault (numbers_fault right) (earlier_fault (adding_fault left) (earlier_fault (adding_fault right) (difference_fault left at right))))
 
 -- The form of the difference of two lists.
-abbrev pub IsRowForm : List Text → Sum → Sum → LinearForm → Type 0
+abbrev pub IsRowForm : List WrittenText → Sum → Sum → LinearForm → Type 0
 IsRowForm names left right form = IsForm names (λ x. minus (sum_number x left) (sum_number x right)) form
 
 -- A difference of forms that is past is told at a place.

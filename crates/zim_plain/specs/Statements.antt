@@ -4,13 +4,13 @@ use Rattle.zim_fault.specs.declared.faults.Place.{Place}
 use Rattle.zim_rows.specs.declared.rows.Sense.{Sense}
 
 -- A name or a number as it is written, byte by byte.
-abbrev pub Text : Type 0
-Text = List ℕ
+abbrev pub WrittenText : Type 0
+WrittenText = List ℕ
 
 -- A number token, and where it stands.
 pub record Literal : Type 0 where
   pub place : Place
-  pub text : Text
+  pub text : WrittenText
 
 -- A slash with the number token behind it.
 pub record Divisor : Type 0 where
@@ -30,7 +30,7 @@ pub record Factor : Type 0 where
 -- An item of a list without its sign: a number, or a name, perhaps with a factor before it.
 pub data Item : Type 0 where
   Constant : (coefficient : Coefficient) → Item
-  Multiple : (factor : Option Factor) (place : Place) (name : Text) → Item
+  Multiple : (factor : Option Factor) (place : Place) (name : WrittenText) → Item
 
 -- A plus or a minus, and where it stands.
 pub record SignAt : Type 0 where
@@ -52,7 +52,7 @@ pub record Sum : Type 0 where
 pub record Head : Type 0 where
   pub word : Place
   pub at : Place
-  pub name : Text
+  pub name : WrittenText
 
 -- `var name;`, `minimize name: list;` or `maximize name: list;`, or `subto name: list relation list;` with the place of the relation.
 pub data Statement : Type 0 where
@@ -61,8 +61,8 @@ pub data Statement : Type 0 where
   Constraint : (head : Head) (left : Sum) (sense : Sense) (at : Place) (right : Sum) → Statement
 
 -- A model: its statements, in order.
-abbrev pub Model : Type 0
-Model = List Statement
+abbrev pub PlainModel : Type 0
+PlainModel = List Statement
 
 -- The first word of a statement, with its name.
 abbrev pub head_of : Statement → Head
@@ -71,8 +71,8 @@ head_of (Objective maximize head sum) = head
 head_of (Constraint head left sense at right) = head
 
 -- The name that a statement gives.
-abbrev pub name_of : Statement → Text
-name_of statement = (head_of statement).name
+abbrev pub given_name : Statement → WrittenText
+given_name statement = (head_of statement).name
 
 -- Whether the sign before a list is a minus.
 abbrev pub first_negative : Option SignAt → Bool
@@ -80,11 +80,11 @@ first_negative None = Bool.false
 first_negative (Some sign) = sign.negative
 
 -- The items of a list with their signs, in order: whether the item is taken away, and the item.
-abbrev pub items_of : Sum → List (Bool × Item)
-items_of sum = (first_negative sum.sign, sum.first) ∷ map (λ (f : Further). (f.sign.negative, f.item)) sum.others
+abbrev pub signed_items : Sum → List (Bool × Item)
+signed_items sum = (first_negative sum.sign, sum.first) ∷ map (λ (f : Further). (f.sign.negative, f.item)) sum.others
 
 -- The names of the variables, in order.
-abbrev pub variables : Model → List Text
+abbrev pub variables : PlainModel → List WrittenText
 variables [] = []
 variables (Variable head ∷ rest) = head.name ∷ variables rest
 variables (Objective maximize head sum ∷ rest) = variables rest

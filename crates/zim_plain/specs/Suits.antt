@@ -2,13 +2,13 @@
 use Rattle.std.specs.Prelude.{◌≡◌, ◌≢◌, Bool, true, false, List, Contains, IsTrue, Option, Some, None, ⊤}
 use Rattle.std.specs.List.{AllByRecursion}
 use Rattle.zim_rational.specs.Rational.{zero}
-use Rattle.zim_decimal.specs.Token.{is_number}
-use Rattle.zim_plain.specs.Statements.{Text, Literal, Divisor, Coefficient, Factor, Item, Constant, Multiple, Sum, Statement, Variable, Objective, Constraint, Model, items_of, name_of, variables}
+use Rattle.zim_decimal.specs.Token.{is_number_token}
+use Rattle.zim_plain.specs.Statements.{WrittenText, Literal, Divisor, Coefficient, Factor, Item, Constant, Multiple, Sum, Statement, Variable, Objective, Constraint, PlainModel, signed_items, given_name, variables}
 use Rattle.zim_plain.specs.Meaning.{literal_number}
 
 -- The text of a number is a number token; the tokens of a text always are.
 abbrev pub SuitsLiteral : Literal → Type 0
-SuitsLiteral literal = IsTrue (is_number literal.text)
+SuitsLiteral literal = IsTrue (is_number_token literal.text)
 
 -- A divisor is a number token, and isn't 0.
 abbrev pub SuitsDivisor : Option Divisor → Type 0
@@ -25,28 +25,28 @@ SuitsFactor None = ⊤
 SuitsFactor (Some factor) = SuitsCoefficient factor.coefficient
 
 -- The numbers of an item are such, and its name is declared.
-abbrev pub SuitsItem : List Text → Bool × Item → Type 0
+abbrev pub SuitsItem : List WrittenText → Bool × Item → Type 0
 SuitsItem declared (negative, Constant coefficient) = SuitsCoefficient coefficient
 SuitsItem declared (negative, Multiple factor place name) = SuitsFactor factor × Contains declared name
 
 -- Each item of a list does.
-abbrev pub SuitsSum : List Text → Sum → Type 0
-SuitsSum declared sum = AllByRecursion (SuitsItem declared) (items_of sum)
+abbrev pub SuitsSum : List WrittenText → Sum → Type 0
+SuitsSum declared sum = AllByRecursion (SuitsItem declared) (signed_items sum)
 
 -- Whether the statement is a `minimize` or a `maximize`.
-abbrev pub is_objective : Statement → Bool
-is_objective (Variable head) = false
-is_objective (Objective maximize head sum) = true
-is_objective (Constraint head left sense at right) = false
+abbrev pub is_goal : Statement → Bool
+is_goal (Variable head) = false
+is_goal (Objective maximize head sum) = true
+is_goal (Constraint head left sense at right) = false
 
 -- The lists of a statement have only variables that are declared before and divide by no 0, and there is one objective.
-abbrev pub HasSuitedParts : (before : Model) → Statement → Type 0
+abbrev pub HasSuitedParts : (before : PlainModel) → Statement → Type 0
 HasSuitedParts before (Variable head) = ⊤
 HasSuitedParts before (Objective maximize head sum) =
-    SuitsSum (variables before) sum × AllByRecursion (λ (other : Statement). is_objective other ≡ false) before
+    SuitsSum (variables before) sum × AllByRecursion (λ (other : Statement). is_goal other ≡ false) before
 HasSuitedParts before (Constraint head left sense at right) = SuitsSum (variables before) left × SuitsSum (variables before) right
 
 -- A statement may follow the statements before it: none of them has its name, and its parts suit them.
-pub record MayFollow (before : Model) (statement : Statement) : Type 0 where
-  pub name_new : AllByRecursion (λ (other : Statement). name_of other ≢ name_of statement) before
+pub record MayFollow (before : PlainModel) (statement : Statement) : Type 0 where
+  pub name_new : AllByRecursion (λ (other : Statement). given_name other ≢ given_name statement) before
   pub parts : HasSuitedParts before statement

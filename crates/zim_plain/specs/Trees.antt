@@ -14,7 +14,7 @@ use Rattle.zim_tree.specs.declared.stmt.Shape.TheVariants as shape
 use Rattle.zim_tree.specs.Levels.{Operands, products, sums, joined}
 use Rattle.zim_rows.specs.declared.rows.Sense.{Sense}
 use Rattle.zim_rows.specs.declared.rows.Sense.TheVariants.{AtMost, AtLeast, Equal}
-use Rattle.zim_plain.specs.Statements.{Literal, Divisor, Item, Constant, Multiple, SignAt, Further, Sum, Head, Statement, Variable, Objective, Constraint, Model}
+use Rattle.zim_plain.specs.Statements.{Literal, Divisor, Item, Constant, Multiple, SignAt, Further, Sum, Head, Statement, Variable, Objective, Constraint, PlainModel}
 
 -- A number.
 abbrev pub tree_of_literal : Literal → Expr
@@ -64,7 +64,7 @@ tree_of (Constraint head left sense at right) =
     headed head (shape.Subto (tree.Compare (tree_of_sum left) ((at, relation_of_sense sense, tree_of_sum right) ∷ [])))
 
 -- The trees of a model's statements, in order.
-abbrev pub trees_of : Model → List Stmt
+abbrev pub trees_of : PlainModel → List Stmt
 trees_of model = map tree_of model
 
 -- A tree is of plain form where it is that of a statement.

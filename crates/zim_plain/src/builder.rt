@@ -6,19 +6,20 @@ ghost use Rattle.std.specs.List.{list_any};
 ghost use Rattle.zim_fault.specs.declared.kinds.Kind.TheVariants.{Syntax};
 ghost use Rattle.zim_plain.specs.Statements.{Variable, Objective, Constraint};
 ghost use Rattle.zim_plain.specs.Faults.{fault_at};
-ghost use Rattle.zim_plain.specs.Reader.{heading_of, sum_of, statement_of};
+ghost use Rattle.zim_plain.specs.Reader.{heading_of, sum_said, statement_said};
 ghost use Rattle.zim_plain.specs.Build.{built, Stands, Adds, IsSmall, stop_of_row};
 ghost use Rattle.zim_plain.specs.declared.stop.PlainStop.TheVariants as stopped;
 
+use crate::declaring::declare_variable;
 use crate::forms::{list_form, row_form};
 use crate::statement::{Head, Statement, Sum};
 use crate::stop::PlainStop;
 use crate::suits::suits_sum;
 use indexmap::IndexSet;
 use std::alloc::Global;
+use zim_columns::Columns;
 use zim_fault::{Bytes, Duplicate, Fault, Kind, Place, Sequence};
-use zim_fraction::{Fraction, negated};
-use zim_linear::Sides;
+use zim_fraction::negated;
 use zim_rows::{RowFault, RowFrom, Sense, System};
 
 /// What was built from the statements so far. After an error it is of no further use.
@@ -26,6 +27,8 @@ use zim_rows::{RowFault, RowFrom, Sense, System};
 pub struct Builder {
     /// The names of the variables, in order.
     pub variables: IndexSet<Bytes>,
+    /// Their columns, which have these names and no index.
+    pub columns: Columns,
     /// The names of the objective and of the constraints.
     pub others: IndexSet<Bytes>,
     /// The names of all statements, in order.
@@ -46,7 +49,7 @@ fn unsuited(head: &Head<'_>) -> PlainStop
     })
 }
 
-/// The stop of a row or a column that was not added, told at a place.
+/// The stop of a row that was not added, told at a place.
 fn unadded(place: Place, fault: RowFault) -> PlainStop
     ensures { result ≡ stop_of_row place fault }
 {
@@ -71,6 +74,7 @@ impl Builder {
     {
         Builder {
             variables: IndexSet::new(alloc),
+            columns: Columns::new(alloc),
             others: IndexSet::new(alloc),
             statements: Sequence::new(alloc),
             objective: None,
@@ -86,7 +90,7 @@ impl Builder {
     }
 
     /// Adds `var name;`.
-    fn add_variable(&mut self, head: &Head<'_>) -> Result<(), PlainStop>
+    fn add_variable(&mut self, alloc: Global, head: &Head<'_>) -> Result<(), PlainStop>
         requires { IsSmall (built self.old) }
         ensures adds { Adds (built self.old) (Variable (heading_of head.now)) (built self.new) result }
         ensures small { OnOk result (IsSmall (built self.new)) }
@@ -94,13 +98,19 @@ impl Builder {
         if self.is_taken(head.name) {
             return Err(unsuited(head));
         }
-        let sides = Sides {
-            low: Some(Fraction::zero()),
-            high: None,
+        let source = RowFrom {
+            statement: self.statements.len() as u32,
+            place: head.at,
         };
-        match self.system.new_column(false, sides) {
-            Ok(_) => (),
-            Err(fault) => return Err(unadded(head.at, fault)),
+        match declare_variable(
+            alloc,
+            &mut self.columns,
+            &mut self.system,
+            source,
+            head.name,
+        ) {
+            Ok(()) => (),
+            Err(stop) => return Err(stop),
         }
         self.variables.insert(head.name.copy()?)?;
         self.statements.push(head.name.copy()?)?;
@@ -116,7 +126,7 @@ impl Builder {
         sum: &Sum<'_>,
     ) -> Result<(), PlainStop>
         requires { IsSmall (built self.old) }
-        ensures adds { Adds (built self.old) (Objective maximize (heading_of head.now) (sum_of sum.now)) (built self.new) result }
+        ensures adds { Adds (built self.old) (Objective maximize (heading_of head.now) (sum_said sum.now)) (built self.new) result }
         ensures small { OnOk result (IsSmall (built self.new)) }
     {
         if self.objective.is_some() {
@@ -150,7 +160,7 @@ impl Builder {
         right: &Sum<'_>,
     ) -> Result<(), PlainStop>
         requires { IsSmall (built self.old) }
-        ensures adds { Adds (built self.old) (Constraint (heading_of head.now) (sum_of left.now) sense at (sum_of right.now)) (built self.new) result }
+        ensures adds { Adds (built self.old) (Constraint (heading_of head.now) (sum_said left.now) sense at (sum_said right.now)) (built self.new) result }
         ensures small { OnOk result (IsSmall (built self.new)) }
     {
         if self.is_taken(head.name) {
@@ -186,11 +196,11 @@ impl Builder {
     /// its numbers is past or a column or a row too many.
     pub fn add(&mut self, alloc: Global, statement: &Statement<'_>) -> Result<(), PlainStop>
         requires { IsSmall (built self.old) }
-        ensures adds { Adds (built self.old) (statement_of statement.now) (built self.new) result }
+        ensures adds { Adds (built self.old) (statement_said statement.now) (built self.new) result }
         ensures small { OnOk result (IsSmall (built self.new)) }
     {
         match statement {
-            Statement::Variable(head) => self.add_variable(head),
+            Statement::Variable(head) => self.add_variable(alloc, head),
             Statement::Objective(maximize, head, sum) => {
                 self.add_objective(alloc, *maximize, head, sum)
             }

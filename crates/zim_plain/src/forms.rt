@@ -2,7 +2,7 @@
 
 ghost use Rattle.std.specs.Prelude.{◌≡◌, ◌≤◌, length};
 ghost use Rattle.zim_plain.specs.Suits.{SuitsSum};
-ghost use Rattle.zim_plain.specs.Reader.{sum_of};
+ghost use Rattle.zim_plain.specs.Reader.{sum_said};
 ghost use Rattle.zim_plain.specs.Sides.{MadeAnswer, list_fault, IsListForm, row_fault, IsRowForm, row_answer};
 
 use crate::numbers::past_at;
@@ -22,8 +22,8 @@ pub fn list_form(
     sum: &Sum<'_>,
 ) -> Result<Form, PlainStop>
     requires few { length variables.now.keys ≤ 1000000 }
-    requires suits { SuitsSum variables.now.keys (sum_of sum.now) }
-    ensures { MadeAnswer (list_fault (sum_of sum.now)) (IsListForm variables.now.keys (sum_of sum.now)) result }
+    requires suits { SuitsSum variables.now.keys (sum_said sum.now) }
+    ensures { MadeAnswer (list_fault (sum_said sum.now)) (IsListForm variables.now.keys (sum_said sum.now)) result }
 {
     let side = match read_side(alloc, variables, sum) {
         Ok(side) => side,
@@ -42,9 +42,9 @@ pub fn row_form(
     right: &Sum<'_>,
 ) -> Result<Form, PlainStop>
     requires few { length variables.now.keys ≤ 1000000 }
-    requires suits_left { SuitsSum variables.now.keys (sum_of left.now) }
-    requires suits_right { SuitsSum variables.now.keys (sum_of right.now) }
-    ensures { MadeAnswer (row_fault (sum_of left.now) at (sum_of right.now)) (IsRowForm variables.now.keys (sum_of left.now) (sum_of right.now)) result }
+    requires suits_left { SuitsSum variables.now.keys (sum_said left.now) }
+    requires suits_right { SuitsSum variables.now.keys (sum_said right.now) }
+    ensures { MadeAnswer (row_fault (sum_said left.now) at (sum_said right.now)) (IsRowForm variables.now.keys (sum_said left.now) (sum_said right.now)) result }
 {
     let left_side = match read_side(alloc, variables, left) {
         Ok(side) => side,

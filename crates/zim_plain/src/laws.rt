@@ -3,10 +3,16 @@ ghost use Rattle.zim_fault.specs.declared.faults.Fault.{Fault};
 ghost use Rattle.zim_fault.specs.declared.tokens.Placed.{Placed};
 ghost use Rattle.zim_tree.specs.declared.stmt.Stmt.{Stmt};
 ghost use Rattle.zim_tree.specs.StatementSpelling.{spelled_of};
-ghost use Rattle.zim_plain.specs.Statements.{Model, Statement};
+ghost use Rattle.zim_plain.specs.Statements.{PlainModel, Statement};
 ghost use Rattle.zim_plain.specs.Trees.{tree_of};
 ghost use Rattle.zim_plain.specs.Written.{written, Writing, IsWrittenInPlainForm, IsReadInPlainForm};
-ghost use Rattle.zim_plain.specs.Answers.{HasOneModel, HasOneFault, HasNoFaultAsModel, HasPlaceOfStatements, IsFirstFault, HasOneProgram};
+ghost use Rattle.zim_plain.specs.Answers.{HaveAnswer, HasOneModel, HasOneFault, HasNoFaultAsModel, HasPlaceOfStatements, IsFirstFault, HasOneProgram};
+
+/// The law that statements are those of an accepted model, or have a first fault, so that each has an answer. The call does
+/// nothing.
+pub fn statements_have_an_answer()
+    ensures { (trees : List Stmt) → HaveAnswer trees }
+{}
 
 /// The law that statements are those of one model at most, so that what is said of a model whose trees they are is said
 /// of the one that they are. The call does nothing.
@@ -23,7 +29,7 @@ pub fn statements_have_one_fault()
 /// The law that the statements of an accepted model have no first fault, so that none are both accepted and refused. The
 /// call does nothing.
 pub fn a_model_has_no_fault()
-    ensures { (model : Model) → HasNoFaultAsModel model }
+    ensures { (model : PlainModel) → HasNoFaultAsModel model }
 {}
 
 /// The law that the place of a first fault is one that stands in the statements. The call does nothing.
@@ -33,7 +39,7 @@ pub fn a_fault_stands_in_the_statements()
 
 /// The law that a model has one program, so that its files are given by the model alone. The call does nothing.
 pub fn a_model_has_one_program()
-    ensures { (model : Model) → HasOneProgram model }
+    ensures { (model : PlainModel) → HasOneProgram model }
 {}
 
 /// The law that the tree of a statement is spelled as the statement is written, token for token. The call does nothing.

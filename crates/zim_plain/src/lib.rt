@@ -8,6 +8,7 @@
 #![tactic(auto)]
 
 mod builder;
+mod declaring;
 mod forms;
 mod laws;
 mod numbers;
@@ -22,7 +23,7 @@ mod suits;
 pub use laws::{
     a_fault_stands_in_the_statements, a_model_has_no_fault, a_model_has_one_program,
     a_statement_has_a_writing, a_statement_is_spelled_as_written, plain_form_is_read_as_written,
-    statements_are_one_model, statements_have_one_fault,
+    statements_are_one_model, statements_have_an_answer, statements_have_one_fault,
 };
-pub use plain_form::{PlainModel, plain_model};
+pub use plain_form::{PlainProgram, plain_model};
 pub use stop::PlainStop;

@@ -10,7 +10,7 @@ ghost use Rattle.zim_plain.specs.Meaning as meaning;
 ghost use Rattle.zim_plain.specs.Suits.{SuitsLiteral, SuitsCoefficient};
 ghost use Rattle.zim_plain.specs.Faults.{fault_at, literal_fault, divisor_fault, coefficient_fault, item_fault};
 ghost use Rattle.zim_plain.specs.Faults as faults;
-ghost use Rattle.zim_plain.specs.Reader.{literal_of, divisor_of, coefficient_of, item_of};
+ghost use Rattle.zim_plain.specs.Reader.{literal_of, divisor_of, coefficient_said, item_of};
 ghost use Rattle.zim_plain.specs.Sides.{NumberAnswer, SuitsNumbers, magnitude_of};
 
 use crate::statement::{Coefficient, Divisor, Item, Literal};
@@ -68,8 +68,8 @@ fn quotient(number: Fraction, divisor: &Divisor<'_>) -> Result<Fraction, Fault>
 
 /// The number of a coefficient, or its first number that is past.
 fn coefficient(coefficient: &Coefficient<'_>) -> Result<Fraction, Fault>
-    requires { SuitsCoefficient (coefficient_of coefficient.now) }
-    ensures { NumberAnswer (coefficient_fault (coefficient_of coefficient.now)) (coefficient_number (coefficient_of coefficient.now)) result }
+    requires { SuitsCoefficient (coefficient_said coefficient.now) }
+    ensures { NumberAnswer (coefficient_fault (coefficient_said coefficient.now)) (coefficient_number (coefficient_said coefficient.now)) result }
 {
     let number = match literal(&coefficient.number) {
         Ok(number) => number,
@@ -95,7 +95,7 @@ fn magnitude(item: &Item<'_>) -> Result<Fraction, Fault>
 
 /// A number, or its negative.
 fn signed(negative: bool, number: Fraction) -> Fraction
-    ensures { result ≡ meaning.signed negative number }
+    ensures { result ≡ meaning.taken_with_sign negative number }
 {
     if negative { negated(number) } else { number }
 }

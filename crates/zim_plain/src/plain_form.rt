@@ -1,6 +1,6 @@
 //! Models of plain form.
 
-ghost use Rattle.std.specs.Prelude.{◌≡◌, IfOk};
+ghost use Rattle.std.specs.Prelude.{◌≡◌};
 ghost use Rattle.zim_fault.specs.declared.kinds.Kind.TheVariants.{Syntax};
 ghost use Rattle.zim_plain.specs.declared.stop.PlainStop.TheVariants as stopped;
 ghost use Rattle.zim_plain.specs.Faults.{fault_at};
@@ -10,19 +10,19 @@ ghost use Rattle.zim_plain.specs.Answers.{BuildsFrom, FinishedAnswer, PlainAnswe
 use crate::builder::Builder;
 use crate::reader::statement;
 use crate::stop::{PlainStop, Stop};
-use indexmap::IndexSet;
 use std::alloc::Global;
-use zim_fault::{Bytes, Duplicate, Fault, Kind, Memory, Place, Sequence};
+use zim_columns::Columns;
+use zim_fault::{Bytes, Fault, Kind, Place, Sequence};
 use zim_rows::{FinishFault, Finished};
 use zim_tree::Stmt;
 
 /// A model of plain form.
 #[derive(Drop)]
-pub struct PlainModel {
+pub struct PlainProgram {
     /// Its system, with a column for each variable and a row for each `subto`.
     pub system: Finished,
-    /// The names of the variables, in order.
-    pub variables: Sequence<Bytes>,
+    /// The declared columns, one for each variable.
+    pub columns: Columns,
     /// The names of all statements, in order.
     pub statements: Sequence<Bytes>,
     /// The position, from 0, of the objective among the statements, if there is one.
@@ -54,34 +54,23 @@ fn build(alloc: Global, statements: &[Stmt]) -> Result<Builder, PlainStop>
     Ok(builder)
 }
 
-/// The names of a set, in order.
-fn list_of(alloc: Global, names: &IndexSet<Bytes>) -> Result<Sequence<Bytes>, Memory>
-    ensures { IfOk result (λ list. list ≡ names.now.keys) }
-{
-    let mut list = Sequence::new(alloc);
-    for name in names.as_slice() {
-        list.push(name.copy()?)?;
-    }
-    Ok(list)
-}
-
 /// The program of what was built, whose numbers are decimals; or the first row, or the objective, that is past when it is
 /// multiplied by its factor.
-fn finish(alloc: Global, builder: Builder) -> Result<PlainModel, PlainStop>
+fn finish(builder: Builder) -> Result<PlainProgram, PlainStop>
     ensures { FinishedAnswer (built builder) result }
 {
     let Builder {
-        variables,
+        variables: _,
+        columns,
         others: _,
         statements,
         objective,
         system,
     } = builder;
-    let variables = list_of(alloc, &variables)?;
     match system.finish() {
-        Ok(system) => Ok(PlainModel {
+        Ok(system) => Ok(PlainProgram {
             system,
-            variables,
+            columns,
             statements,
             objective,
         }),
@@ -96,11 +85,11 @@ fn finish(alloc: Global, builder: Builder) -> Result<PlainModel, PlainStop>
 /// token), of one that may not follow those before it (`Syntax` at its first word), of a number past 128 bits (at the
 /// number, its slash, the operator or the relation), of a column or a row too many (at the name or the relation); and
 /// last, of a row or the objective that is past when it is multiplied by its factor.
-pub fn plain_model(alloc: Global, statements: &[Stmt]) -> Result<PlainModel, PlainStop>
+pub fn plain_model(alloc: Global, statements: &[Stmt]) -> Result<PlainProgram, PlainStop>
     ensures { PlainAnswer statements.now result }
 {
     match build(alloc, statements) {
-        Ok(builder) => finish(alloc, builder),
+        Ok(builder) => finish(builder),
         Err(stop) => Err(stop),
     }
 }

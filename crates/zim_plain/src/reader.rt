@@ -1,7 +1,7 @@
 //! Statements of plain form, read off their trees: a function for each class.
 
 ghost use Rattle.std.specs.Prelude.{◌≡◌, map, option_map};
-ghost use Rattle.zim_plain.specs.Reader.{IsRead, Finds, Gives, literal_of, coefficient_of, item_of, sign_of, further_of, sum_of, heading_of, statement_of};
+ghost use Rattle.zim_plain.specs.Reader.{IsRead, FindsRead, GivesRead, literal_of, coefficient_said, item_of, sign_said, further_of, sum_said, heading_of, statement_said};
 ghost use Rattle.zim_plain.specs.Reading as spec;
 
 use crate::statement::{
@@ -16,7 +16,7 @@ use zim_tree::{Expr, Shape, Stmt};
 /// A number.
 #[tactic(auto, unfolding(crate::specs::Reading::read_literal))]
 fn literal(tree: &Expr) -> Result<Literal<'_>, NotPlain>
-    ensures { Finds literal_of result (spec.read_literal tree.now) }
+    ensures { FindsRead literal_of result (spec.read_literal tree.now) }
 {
     match tree {
         Expr::Number(place, text) => Ok(Literal {
@@ -28,9 +28,9 @@ fn literal(tree: &Expr) -> Result<Literal<'_>, NotPlain>
 }
 
 /// A name, and where it stands.
-#[tactic(auto, unfolding(crate::specs::Reading::read_name))]
+#[tactic(auto, unfolding(crate::specs::Reading::read_as_name))]
 fn name(tree: &Expr) -> Result<(Place, &Bytes), NotPlain>
-    ensures { Finds (λ p. (p.0, p.1.now)) result (spec.read_name tree.now) }
+    ensures { FindsRead (λ p. (p.0, p.1.now)) result (spec.read_as_name tree.now) }
 {
     match tree {
         Expr::Name(place, name) => Ok((*place, name)),
@@ -41,7 +41,7 @@ fn name(tree: &Expr) -> Result<(Place, &Bytes), NotPlain>
 /// The sign of an expression, if it begins with one, and the expression behind it.
 #[tactic(auto, unfolding(crate::specs::Reading::read_signed))]
 fn signed(tree: &Expr) -> (Option<SignAt>, &Expr)
-    ensures { (option_map sign_of result.0, result.1.now) ≡ spec.read_signed tree.now }
+    ensures { (option_map sign_said result.0, result.1.now) ≡ spec.read_signed tree.now }
 {
     match tree {
         Expr::Signed(place, negative, operand) => {
@@ -61,7 +61,7 @@ fn product<'a>(
     number: Literal<'a>,
     others: &'a [(Place, Token, Expr)],
 ) -> Result<Item<'a>, NotPlain>
-    ensures { Finds item_of result (spec.read_product (literal_of number.entry) others.now) }
+    ensures { FindsRead item_of result (spec.read_product (literal_of number.entry) others.now) }
 {
     match others {
         [(slash, Token::Sign(Sign::SSlash), divisor)] => {
@@ -90,7 +90,7 @@ fn product<'a>(
 
 /// A number over another, with the slash at a place.
 fn over<'a>(number: Literal<'a>, slash: Place, literal: Literal<'a>) -> Coefficient<'a>
-    ensures { coefficient_of result ≡ spec.over (literal_of number.entry) slash (literal_of literal.entry) }
+    ensures { coefficient_said result ≡ spec.quotient_of (literal_of number.entry) slash (literal_of literal.entry) }
 {
     Coefficient {
         number,
@@ -105,7 +105,7 @@ fn multiple<'a>(
     place: Place,
     name: &'a Bytes,
 ) -> Item<'a>
-    ensures { item_of result ≡ spec.multiple (coefficient_of coefficient.entry) star (place, name.now) }
+    ensures { item_of result ≡ spec.multiple (coefficient_said coefficient.entry) star (place, name.now) }
 {
     Item::Multiple(Some(Factor { coefficient, star }), place, name)
 }
@@ -113,7 +113,7 @@ fn multiple<'a>(
 /// A number alone, or a name alone.
 #[tactic(auto, unfolding(crate::specs::Reading::read_operand))]
 fn operand(tree: &Expr) -> Result<Item<'_>, NotPlain>
-    ensures { Finds item_of result (spec.read_operand tree.now) }
+    ensures { FindsRead item_of result (spec.read_operand tree.now) }
 {
     match tree {
         Expr::Number(place, text) => Ok(Item::Constant(Coefficient {
@@ -131,7 +131,7 @@ fn operand(tree: &Expr) -> Result<Item<'_>, NotPlain>
 /// An item with its sign, which stands before its first operand.
 #[tactic(auto, unfolding(crate::specs::Reading::read_item))]
 fn item(tree: &Expr) -> Result<(Option<SignAt>, Item<'_>), NotPlain>
-    ensures { Finds (λ p. (option_map sign_of p.0, item_of p.1)) result (spec.read_item tree.now) }
+    ensures { FindsRead (λ p. (option_map sign_said p.0, item_of p.1)) result (spec.read_item tree.now) }
 {
     match tree {
         Expr::Times(first, others) => {
@@ -151,7 +151,7 @@ fn item(tree: &Expr) -> Result<(Option<SignAt>, Item<'_>), NotPlain>
 /// A plus or a minus, at a place.
 #[tactic(auto, unfolding(crate::specs::Reading::read_sign))]
 fn sign(place: Place, operator: &Token) -> Result<SignAt, NotPlain>
-    ensures { Finds sign_of result (spec.read_sign place operator.now) }
+    ensures { FindsRead sign_said result (spec.read_sign place operator.now) }
 {
     match operator {
         Token::Sign(Sign::SPlus) => Ok(SignAt {
@@ -169,7 +169,7 @@ fn sign(place: Place, operator: &Token) -> Result<SignAt, NotPlain>
 /// An item behind others, with the operator before it. It has no sign of its own.
 #[tactic(auto, unfolding(crate::specs::Reading::read_further))]
 fn further(other: &(Place, Token, Expr)) -> Result<Further<'_>, NotPlain>
-    ensures { Finds further_of result (spec.read_further other.now) }
+    ensures { FindsRead further_of result (spec.read_further other.now) }
 {
     let (place, operator, operand) = other;
     let sign = sign(*place, operator)?;
@@ -181,7 +181,7 @@ fn further(other: &(Place, Token, Expr)) -> Result<Further<'_>, NotPlain>
 
 /// Items behind others.
 fn others(alloc: Global, operands: &[(Place, Token, Expr)]) -> Result<Vec<Further<'_>>, Stop>
-    ensures { Gives (λ v. map further_of v.items) result (spec.read_others operands.now) }
+    ensures { GivesRead (λ v. map further_of v.items) result (spec.read_others operands.now) }
 {
     let mut others = Vec::new(alloc);
     for operand in operands {
@@ -194,7 +194,7 @@ fn others(alloc: Global, operands: &[(Place, Token, Expr)]) -> Result<Vec<Furthe
 /// A list: the sum of at least two items, or one item.
 #[tactic(auto, unfolding(crate::specs::Reading::read_sum))]
 fn sum(alloc: Global, tree: &Expr) -> Result<Sum<'_>, Stop>
-    ensures { Gives sum_of result (spec.read_sum tree.now) }
+    ensures { GivesRead sum_said result (spec.read_sum tree.now) }
 {
     match tree {
         Expr::Plus(first, operands) => {
@@ -224,7 +224,7 @@ fn sum(alloc: Global, tree: &Expr) -> Result<Sum<'_>, Stop>
 /// The relation between the sides of a constraint.
 #[tactic(auto, unfolding(crate::specs::Reading::read_sense))]
 fn sense(relation: Relation) -> Result<Sense, NotPlain>
-    ensures { Finds (λ s. s) result (spec.read_sense relation) }
+    ensures { FindsRead (λ s. s) result (spec.read_sense relation) }
 {
     match relation {
         Relation::AtMost => Ok(Sense::AtMost),
@@ -237,7 +237,7 @@ fn sense(relation: Relation) -> Result<Sense, NotPlain>
 /// What a constraint compares.
 #[tactic(auto, unfolding(crate::specs::Reading::read_constraint))]
 fn constraint<'a>(alloc: Global, head: Head<'a>, condition: &'a Expr) -> Result<Statement<'a>, Stop>
-    ensures { Gives statement_of result (spec.read_constraint (heading_of head.entry) condition.now) }
+    ensures { GivesRead statement_said result (spec.read_constraint (heading_of head.entry) condition.now) }
 {
     match condition {
         Expr::Compare(left, others) => match others.as_slice() {
@@ -254,9 +254,9 @@ fn constraint<'a>(alloc: Global, head: Head<'a>, condition: &'a Expr) -> Result<
 }
 
 /// What a statement says of its name.
-#[tactic(auto, unfolding(crate::specs::Reading::read_objective))]
+#[tactic(auto, unfolding(crate::specs::Reading::read_goal))]
 fn shape<'a>(alloc: Global, head: Head<'a>, shape: &'a Shape) -> Result<Statement<'a>, Stop>
-    ensures { Gives statement_of result (spec.shape_of (heading_of head.entry) shape.now) }
+    ensures { GivesRead statement_said result (spec.shape_of (heading_of head.entry) shape.now) }
 {
     match shape {
         Shape::Var(None, None, limits, None, None) => {

@@ -2,10 +2,10 @@
 
 ghost use Rattle.std.specs.Prelude.{◌≡◌, ◌≤◌, false, List, length, map, option_map};
 ghost use Rattle.zim_plain.specs.Suits.{SuitsItem, SuitsSum};
-ghost use Rattle.zim_plain.specs.Statements.{Text, first_negative};
+ghost use Rattle.zim_plain.specs.Statements.{WrittenText, first_negative};
 ghost use Rattle.zim_plain.specs.Faults.{item_fault, numbers_fault};
 ghost use Rattle.zim_plain.specs.Faults as faults;
-ghost use Rattle.zim_plain.specs.Reader.{item_of, sign_of, further_of, sum_of};
+ghost use Rattle.zim_plain.specs.Reader.{item_of, sign_said, further_of, sum_said};
 ghost use Rattle.zim_plain.specs.Parts as parts;
 ghost use Rattle.zim_plain.specs.Parts.{part_at};
 ghost use Rattle.zim_plain.specs.Sides.{PartAnswer, MadeAnswer, KnownAnswer, HavePartsOf, parts_numbers_fault, IsSideOf};
@@ -44,7 +44,7 @@ fn any_has_name(others: &[Further<'_>]) -> bool
 
 /// Whether a list names a variable.
 fn names_variable(sum: &Sum<'_>) -> bool
-    ensures { result ≡ faults.names_variable (sum_of sum.now) }
+    ensures { result ≡ faults.has_variable (sum_said sum.now) }
 {
     if has_name(&sum.first) {
         return true;
@@ -54,7 +54,7 @@ fn names_variable(sum: &Sum<'_>) -> bool
 
 /// Whether the sign before a list is a minus.
 fn is_negative(sign: &Option<SignAt>) -> bool
-    ensures { result ≡ first_negative (option_map sign_of sign.now) }
+    ensures { result ≡ first_negative (option_map sign_said sign.now) }
 {
     match sign {
         Some(sign) => sign.negative,
@@ -105,8 +105,8 @@ fn part(
 /// The parts of a list, or its first number that is past.
 fn parts(alloc: Global, variables: &IndexSet<Bytes>, sum: &Sum<'_>) -> Result<Vec<Part>, PlainStop>
     requires few { length variables.now.keys ≤ 1000000 }
-    requires suits { SuitsSum variables.now.keys (sum_of sum.now) }
-    ensures { MadeAnswer (parts_numbers_fault (sum_of sum.now)) (HavePartsOf variables.now.keys (sum_of sum.now)) result }
+    requires suits { SuitsSum variables.now.keys (sum_said sum.now) }
+    ensures { MadeAnswer (parts_numbers_fault (sum_said sum.now)) (HavePartsOf variables.now.keys (sum_said sum.now)) result }
 {
     let first = match part(
         variables,
@@ -135,9 +135,9 @@ fn parts(alloc: Global, variables: &IndexSet<Bytes>, sum: &Sum<'_>) -> Result<Ve
 
 /// The number of a list that names no variable, or its first number or sum that is past.
 fn known(sum: &Sum<'_>) -> Result<Fraction, Fault>
-    requires numbers { faults.names_variable (sum_of sum.now) ≡ false }
-    requires suits { (names : List Text) × SuitsSum names (sum_of sum.now) }
-    ensures { KnownAnswer (sum_of sum.now) result }
+    requires numbers { faults.has_variable (sum_said sum.now) ≡ false }
+    requires suits { (names : List WrittenText) × SuitsSum names (sum_said sum.now) }
+    ensures { KnownAnswer (sum_said sum.now) result }
 {
     let mut total = match amount(is_negative(&sum.sign), &sum.first) {
         Ok(first) => first,
@@ -164,8 +164,8 @@ pub fn read_side(
     sum: &Sum<'_>,
 ) -> Result<Side, PlainStop>
     requires few { length variables.now.keys ≤ 1000000 }
-    requires suits { SuitsSum variables.now.keys (sum_of sum.now) }
-    ensures { MadeAnswer (numbers_fault (sum_of sum.now)) (IsSideOf variables.now.keys (sum_of sum.now)) result }
+    requires suits { SuitsSum variables.now.keys (sum_said sum.now) }
+    ensures { MadeAnswer (numbers_fault (sum_said sum.now)) (IsSideOf variables.now.keys (sum_said sum.now)) result }
 {
     if names_variable(sum) {
         match parts(alloc, variables, sum) {

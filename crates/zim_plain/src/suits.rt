@@ -5,7 +5,7 @@ ghost use Rattle.zim_decimal.specs.Token as token;
 ghost use Rattle.zim_plain.specs.Suits.{SuitsLiteral, SuitsDivisor, SuitsCoefficient, SuitsItem, SuitsSum};
 ghost use Rattle.zim_plain.specs.Systems as systems;
 ghost use Rattle.zim_plain.specs.Systems.{column_of_name};
-ghost use Rattle.zim_plain.specs.Reader.{literal_of, divisor_of, coefficient_of, item_of, further_of, sum_of};
+ghost use Rattle.zim_plain.specs.Reader.{literal_of, divisor_of, coefficient_said, item_of, further_of, sum_said};
 ghost use Rattle.zim_plain.specs.Sides.{IsDeclared, SuitsNumbers, SuitOthers, starts_with_sign};
 
 use crate::numbers::is_zero;
@@ -26,7 +26,7 @@ fn has_sign(text: &[u8]) -> bool
 
 /// Whether a text is written as number tokens are: as a field without a sign.
 fn is_number(text: &[u8]) -> bool
-    ensures { result ≡ token.is_number text.now }
+    ensures { result ≡ token.is_number_token text.now }
 {
     if has_sign(text) {
         return false;
@@ -54,7 +54,7 @@ fn suits_divisor(divisor: &Divisor<'_>) -> bool
 
 /// Whether a coefficient is a number token, perhaps over one that isn't 0.
 fn suits_coefficient(coefficient: &Coefficient<'_>) -> bool
-    ensures { IsTrue result ↔ SuitsCoefficient (coefficient_of coefficient.now) }
+    ensures { IsTrue result ↔ SuitsCoefficient (coefficient_said coefficient.now) }
 {
     if !suits_literal(&coefficient.number) {
         return false;
@@ -88,7 +88,7 @@ fn is_declared(variables: &IndexSet<Bytes>, item: &Item<'_>) -> bool
 
 /// Whether each item of a list has such numbers and a declared name, or none.
 pub fn suits_sum(variables: &IndexSet<Bytes>, sum: &Sum<'_>) -> bool
-    ensures { IsTrue result ↔ SuitsSum variables.now.keys (sum_of sum.now) }
+    ensures { IsTrue result ↔ SuitsSum variables.now.keys (sum_said sum.now) }
 {
     suits_item(variables, &sum.first) && suits_others(variables, sum.others.as_slice())
 }

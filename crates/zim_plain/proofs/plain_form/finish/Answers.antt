@@ -7,5 +7,5 @@ use Rattle.zim_plain.proofs.plain_form.finish.Goals as goal
 pub returns-in-Ok : goal.returns-in-Ok
 returns-in-Ok c model plain stands =
     says_model model (built c.args.builder) _ plain stands
-    (record { faultless = c.in-Ok.ensures.answer.0; program = c.in-Ok.ensures.answer.1; objective = c.in-Ok.ensures.objective; covered = c.in-Ok.ensures.covered })
-    c.in_ok-variables.ensures refl refl
+    (record { faultless = c.in-Ok.ensures.answer.0; program = c.in-Ok.ensures.answer.1; points = c.in-Ok.ensures.points; objective = c.in-Ok.ensures.objective; covered = c.in-Ok.ensures.covered })
+    refl refl refl
