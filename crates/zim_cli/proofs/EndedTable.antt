@@ -1,26 +1,26 @@
 -- A table that ends in its last line stands beside whole files, or no file was changed.
 use Rattle.std.proofs.Common.{◌≡◌, ℕ, Bool, true, false, cond, List, [], ◌∷◌, Option, None, Some, option_map, inl, inr, refl, sym, ◌∙◌, ap, subst}
-use Rattle.std.specs.Prelude.{◌⊎◌, nat_eq, ◌+◌, length}
+use Rattle.std.specs.Prelude.{◌⊎◌, nat_eq}
 use Rattle.std.specs.Ordering.{nat_cmp, eq_by_cmp}
 use Rattle.std.specs.Cmp.{Equal-is}
 use Rattle.std.specs.Cmp.Lexicographic.{pointwise, slice_cmp}
 use Rattle.std.specs.FinMap as map
 use Rattle.std.proofs.lemmas.List.{append_cancel_left}
 use Rattle.zim_gate.specs.Counts.{IsFrontOf}
-use Rattle.zim_gate.specs.Folder.{FolderState, Files, bytes_held}
+use Rattle.zim_gate.specs.Folder.{FolderState, HeldFiles, bytes_of_name}
 use Rattle.zim_table.specs.Reader.{Table as TableSaid, table}
 use Rattle.zim_table.specs.Ended.{EndsInEnd, only_line, last_line}
 use Rattle.zim_table.proofs.WholeLaws.{front_is_whole}
 use Rattle.zim_cli.specs.declared.ending.Ending.{Ending}
 use Rattle.zim_cli.specs.declared.jobs.Job.{Job}
 use Rattle.zim_cli.specs.declared.jobs.Job.TheVariants.{Compile}
+use Rattle.zim_build.specs.Model.{statement_names}
 use Rattle.zim_cli.specs.declared.outputs.Output.{Output}
 use Rattle.zim_cli.specs.declared.outputs.Output.TheVariants.{Lp, Mps, Table}
-use Rattle.zim_cli.specs.Compile.{WhereTold}
+use Rattle.zim_gate.specs.Sink.{SinkState}
 use Rattle.zim_cli.specs.Headline.{HoldsAllFiles, EndedTableIsWhole}
-use Rattle.zim_cli.specs.Outputs.{Texts, texts_of, both_lengths, Makes, ending_text, output_name, without_table, with_lp, with_mps, with_table, StopsAt, untouched, emptied, lp_kept, lp_part, mps_kept, mps_part, table_kept, table_part, IsEmptyFrontOf, IsStoppedAt}
-use Rattle.zim_cli.specs.Run.{Ended, OfTexts, IsStopped, usage, refused, unread, unwritten, no_memory, no_memory_to_begin, done}
-use Rattle.zim_cli.proofs.CompileLemmas.{where_map}
+use Rattle.zim_cli.specs.Outputs.{Texts, texts_of, ending_text, output_name, without_table, with_lp, with_mps, with_table, StopsAt, untouched, emptied, lp_kept, lp_part, mps_kept, mps_part, table_kept, table_part, IsEmptyFrontOf, IsStoppedAt}
+use Rattle.zim_cli.specs.Run.{Ended, OfModel, IsStopped, usage, refused, unread, unput, unwritten, no_memory, no_memory_to_begin, done}
 use Rattle.zim_gate.proofs.AppendingLaws.{get_inserted, get_after}
 
 -- no name is that of two outputs
@@ -46,7 +46,7 @@ mps_apart : ending_text Table ≡ ending_text Mps → ⊥
 mps_apart e = let no : true ≡ false = ap is_ending e in cc
 
 -- what the table's name holds after another output was written
-table_kept_by : (base : List ℕ) (output : Output) (files : Files) (bytes : List ℕ) → (ending_text Table ≡ ending_text output → ⊥) → map.get (map.insert files (output_name base output) bytes) (output_name base Table) ≡ map.get files (output_name base Table)
+table_kept_by : (base : List ℕ) (output : Output) (files : HeldFiles) (bytes : List ℕ) → (ending_text Table ≡ ending_text output → ⊥) → map.get (map.insert files (output_name base output) bytes) (output_name base Table) ≡ map.get files (output_name base Table)
 table_kept_by base output files bytes apart =
     get_after files (output_name base output) bytes (output_name base Table)
     ∙ ap (λ (b : Bool). cond b (Some bytes) (map.get files (output_name base Table))) (other_name base output apart)
@@ -60,20 +60,20 @@ not_empty _ e (last_line (b ∷ before)) = cc
 in_some : (text other : List ℕ) → Some other ≡ Some text → text ≡ other
 in_some text other e = cc
 
-empty_then : (files : Files) (base text : List ℕ) → map.get files (output_name base Table) ≡ Some text → map.get files (output_name base Table) ≡ Some [] → EndsInEnd text → ⊥
+empty_then : (files : HeldFiles) (base text : List ℕ) → map.get files (output_name base Table) ≡ Some text → map.get files (output_name base Table) ≡ Some [] → EndsInEnd text → ⊥
 empty_then files base text at empty ends = not_empty text (in_some text [] (sym empty ∙ at)) ends
 
-table_empty : (base : List ℕ) (files : Files) → map.get (without_table base files) (output_name base Table) ≡ Some []
+table_empty : (base : List ℕ) (files : HeldFiles) → map.get (without_table base files) (output_name base Table) ≡ Some []
 table_empty base files = get_inserted files (output_name base Table) []
 
-empty_beside_lp : (base bytes : List ℕ) (files : Files) → map.get (with_lp base bytes files) (output_name base Table) ≡ Some []
+empty_beside_lp : (base bytes : List ℕ) (files : HeldFiles) → map.get (with_lp base bytes files) (output_name base Table) ≡ Some []
 empty_beside_lp base bytes files = table_kept_by base Lp (without_table base files) bytes lp_apart ∙ table_empty base files
 
-empty_beside_mps : (base bytes : List ℕ) (texts : Texts) (files : Files) → map.get (with_mps base texts bytes files) (output_name base Table) ≡ Some []
+empty_beside_mps : (base bytes : List ℕ) (texts : Texts) (files : HeldFiles) → map.get (with_mps base texts bytes files) (output_name base Table) ≡ Some []
 empty_beside_mps base bytes texts files = table_kept_by base Mps (with_lp base texts.lp files) bytes mps_apart ∙ empty_beside_lp base texts.lp files
 
 -- what a stop leaves, where the table ends in its last line
-left_whole : (IsPart : List ℕ → List ℕ → Type 0) (base : List ℕ) (texts : Texts) (output : Output) (change : Files → Files) (n : ℕ) (files : Files) (text : List ℕ) →
+left_whole : (IsPart : List ℕ → List ℕ → Type 0) (base : List ℕ) (texts : Texts) (output : Output) (change : HeldFiles → HeldFiles) (n : ℕ) (files : HeldFiles) (text : List ℕ) →
     ((front : List ℕ) → IsPart front texts.table → EndsInEnd front → front ≡ texts.table) → StopsAt IsPart base texts output change n → map.get (change files) (output_name base Table) ≡ Some text → EndsInEnd text → (change files ≡ files) ⊎ (change files ≡ with_table base texts texts.table files)
 left_whole IsPart base texts _ _ _ files text whole untouched at ends = inl refl
 left_whole IsPart base texts _ _ _ files text whole emptied at ends = absurd (empty_then _ base text at (table_empty base files) ends)
@@ -94,57 +94,94 @@ same_job P job other over model base e f at =
     subst (λ (m : List ℕ). P m base) first (subst (λ (b : List ℕ). P other b) second at)
 
 -- a stop, with the files before and after it
-record HeldStop (IsPart : List ℕ → List ℕ → Type 0) (base : List ℕ) (texts : Texts) (output : Output) (before now : Option Files) : Type 0 where
-  change : Files → Files
+record HeldStop (IsPart : List ℕ → List ℕ → Type 0) (base : List ℕ) (texts : Texts) (output : Output) (before now : Option HeldFiles) : Type 0 where
+  change : HeldFiles → HeldFiles
   bytes : ℕ
   at : StopsAt IsPart base texts output change bytes
   held : now ≡ option_map change before
 
 -- all files written, with the files before and after that
-abbrev AllHeld : List ℕ → Option Files → Option Files → Texts → Type 0
+abbrev AllHeld : List ℕ → Option HeldFiles → Option HeldFiles → Texts → Type 0
 AllHeld base before now texts = now ≡ option_map (with_table base texts texts.table) before
 
-of_all : (Is Other : Texts → Type 0) (files : Files) (name : List ℕ) → ((texts : Texts) → Is texts → Other texts) → OfTexts Is files name → OfTexts Other files name
-of_all Is Other files name then of = record { model = of.model; read = of.read; system = of.system; is_system = of.is_system; say = of.say; is = then _ of.is }
+-- what is so of what a model prints and of its texts is so of them in another way
+of_all : (Is Other : List ℕ → Texts → Type 0) (held : Option HeldFiles) (name : List ℕ) → ((printed : List ℕ) (texts : Texts) → Is printed texts → Other printed texts) → OfModel held name Is → OfModel held name Other
+of_all Is Other held name then of = record {
+  model = of.model;
+  opened = of.opened;
+  read = of.read;
+  columns = of.columns;
+  program = of.program;
+  is_program = of.is_program;
+  say = of.say;
+  is = then _ _ of.is;
+}
 
 -- parts of a table that end in its last line are the table
 abbrev PartsAreWhole : (List ℕ → List ℕ → Type 0) → Type 0
 PartsAreWhole IsPart = (text front : List ℕ) (said : TableSaid) → table text ≡ Some said → IsPart front text → EndsInEnd front → front ≡ text
 
-stop_is_whole : (IsPart : List ℕ → List ℕ → Type 0) (base text : List ℕ) (output : Output) (before now : Option Files) (model : List ℕ) → PartsAreWhole IsPart → WhereTold before model (OfTexts (λ (texts : Texts). HeldStop IsPart base texts output before now)) → bytes_held now (output_name base Table) ≡ Some text → EndsInEnd text → (now ≡ before) ⊎ WhereTold before model (OfTexts (AllHeld base before now))
-stop_is_whole IsPart base text output None now model parts told at ends = inr tt
-stop_is_whole IsPart base text output (Some files) now model parts of at ends =
-    by_files (left_whole IsPart base _ output of.is.change of.is.bytes files text (λ front is. parts _ front of.say.names of.say.table_reads is) of.is.at (sym (ap (λ (held : Option Files). bytes_held held (output_name base Table)) of.is.held) ∙ at) ends)
+-- what a stop leaves of files that may not be told
+left_in : (IsPart : List ℕ → List ℕ → Type 0) (base : List ℕ) (texts : Texts) (output : Output) (change : HeldFiles → HeldFiles) (n : ℕ) (before : Option HeldFiles) (text : List ℕ) →
+    ((front : List ℕ) → IsPart front texts.table → EndsInEnd front → front ≡ texts.table) → StopsAt IsPart base texts output change n → bytes_of_name (option_map change before) (output_name base Table) ≡ Some text → EndsInEnd text →
+    (option_map change before ≡ before) ⊎ (option_map change before ≡ option_map (with_table base texts texts.table) before)
+left_in IsPart base texts output change n None text whole at is ends = inl refl
+left_in IsPart base texts output change n (Some files) text whole at is ends = by (left_whole IsPart base texts output change n files text whole at is ends)
   where
-    by_files : (of.is.change files ≡ files) ⊎ (of.is.change files ≡ with_table base (texts_of of.system) (texts_of of.system).table files) → (now ≡ Some files) ⊎ WhereTold (Some files) model (OfTexts (AllHeld base (Some files) now))
-    by_files (inl same) = inl (of.is.held ∙ ap Some same)
-    by_files (inr whole) = inr (record { model = of.model; read = of.read; system = of.system; is_system = of.is_system; say = of.say; is = of.is.held ∙ ap Some whole })
+    by : (change files ≡ files) ⊎ (change files ≡ with_table base texts texts.table files) → (Some (change files) ≡ Some files) ⊎ (Some (change files) ≡ Some (with_table base texts texts.table files))
+    by (inl same) = inl (ap Some same)
+    by (inr written) = inr (ap Some written)
 
-stopped_is_whole : (IsPart : List ℕ → List ℕ → Type 0) (before now : FolderState) (model base other over text : List ℕ) (output : Output) (job : Option Job) → PartsAreWhole IsPart → job ≡ Some (Compile other over) → job ≡ Some (Compile model base) → IsStopped IsPart before now other over output → bytes_held now.held (output_name base Table) ≡ Some text → EndsInEnd text → (now.held ≡ before.held) ⊎ HoldsAllFiles before now model base
-stopped_is_whole IsPart before now model base other over text output job parts f is stopped at ends =
-    let same : IsStopped IsPart before now model base output = same_job (λ (m b : List ℕ). IsStopped IsPart before now m b output) job other over model base f is stopped in
-    stop_is_whole IsPart base text output before.held now.held model parts
-    (where_map before.held model _ _
-    (λ files name. of_all (λ (texts : Texts). IsStoppedAt IsPart before now base texts output) (λ (texts : Texts). HeldStop IsPart base texts output before.held now.held) files name
-    (λ texts s. record { change = s.change; bytes = s.bytes; at = s.at; held = s.makes.held }))
-    same)
+stop_is_whole : (IsPart : List ℕ → List ℕ → Type 0) (before now : FolderState) (o n : SinkState) (base text name : List ℕ) (output : Output) → PartsAreWhole IsPart → IsStopped IsPart before now o n name base output →
+    bytes_of_name now.held (output_name base Table) ≡ Some text → EndsInEnd text → (now.held ≡ before.held) ⊎ HoldsAllFiles before now name base
+stop_is_whole IsPart before now o n base text name output parts of at ends =
+    by (left_in IsPart base texts output stopped.change stopped.bytes before.held text (λ front is. parts _ front of.say.names of.say.table_reads is) stopped.at (sym (ap (λ (held : Option HeldFiles). bytes_of_name held (output_name base Table)) stopped.makes.held) ∙ at) ends)
+  where
+    texts : Texts
+    texts = texts_of of.program of.columns (statement_names of.model)
+
+    stopped : IsStoppedAt IsPart before now base texts output
+    stopped = of.is.1
+
+    by : (option_map stopped.change before.held ≡ before.held) ⊎ (option_map stopped.change before.held ≡ option_map (with_table base texts texts.table) before.held) → (now.held ≡ before.held) ⊎ HoldsAllFiles before now name base
+    by (inl same) = inl (stopped.makes.held ∙ same)
+    by (inr written) = inr (record {
+      model = of.model;
+      opened = of.opened;
+      read = of.read;
+      columns = of.columns;
+      program = of.program;
+      is_program = of.is_program;
+      say = of.say;
+      is = stopped.makes.held ∙ written;
+    })
+
+-- two jobs that are one have one model and one base
+stopped_is_whole : (IsPart : List ℕ → List ℕ → Type 0) (before now : FolderState) (o n : SinkState) (model base other over text : List ℕ) (output : Output) (job : Option Job) → PartsAreWhole IsPart → job ≡ Some (Compile other over) → job ≡ Some (Compile model base) →
+    IsStopped IsPart before now o n other over output → bytes_of_name now.held (output_name base Table) ≡ Some text → EndsInEnd text → (now.held ≡ before.held) ⊎ HoldsAllFiles before now model base
+stopped_is_whole IsPart before now o n model base other over text output job parts f is stopped at ends =
+    stop_is_whole IsPart before now o n base text model output parts
+    (same_job (λ (m b : List ℕ). IsStopped IsPart before now o n m b output) job other over model base f is stopped)
     at ends
+
+front_parts : PartsAreWhole IsFrontOf
+front_parts = front_is_whole
 
 no_part_is_whole : PartsAreWhole IsEmptyFrontOf
 no_part_is_whole text front said e is ends = absurd (not_empty front is ends)
 
 -- beside a table of this run that ends in its last line, the other files are whole
-pub ended_table : (job : Option Job) (before now : FolderState) (ending : Ending) → Ended job before now ending → EndedTableIsWhole job before now
-ended_table job before now _ (usage none same) model base text is at ends = inl (ap (λ (state : FolderState). state.held) same)
-ended_table job before now _ (refused other over fault others f place why held) model base text is at ends = inl held.held
-ended_table job before now _ (unread other over name f why held) model base text is at ends = inl held.held
-ended_table job before now _ (unwritten other over output f rose stopped) model base text is at ends =
-    stopped_is_whole IsFrontOf before now model base other over text output job front_is_whole f is stopped at ends
-ended_table job before now _ (no_memory held) model base text is at ends = inl held.held
-ended_table job before now _ (no_memory_to_begin other over output f stopped) model base text is at ends =
-    stopped_is_whole IsEmptyFrontOf before now model base other over text output job no_part_is_whole f is stopped at ends
-ended_table job before now _ (done other over f written) model base text is at ends =
+pub ended_table : (job : Option Job) (before now : FolderState) (o n : SinkState) (ending : Ending) → Ended job before now o n ending → EndedTableIsWhole job before now
+ended_table job before now o n _ (usage none same still) model base text is at ends = inl (ap (λ (state : FolderState). state.held) same)
+ended_table job before now o n _ (refused other over fault opened printed f place own why may takes held) model base text is at ends = inl held.held
+ended_table job before now o n _ (unread other over name printed f why takes held) model base text is at ends = inl held.held
+ended_table job before now o n _ (unput other over printed f why stops held) model base text is at ends = inl held.held
+ended_table job before now o n _ (unwritten other over output f rose stopped) model base text is at ends =
+    stopped_is_whole IsFrontOf before now o n model base other over text output job front_parts f is stopped at ends
+ended_table job before now o n _ (no_memory still held) model base text is at ends = inl held.held
+ended_table job before now o n _ (no_memory_to_begin other over output f stopped) model base text is at ends =
+    stopped_is_whole IsEmptyFrontOf before now o n model base other over text output job no_part_is_whole f is stopped at ends
+ended_table job before now o n _ (done other over f none_begun of) model base text is at ends =
     inr
-    (where_map before.held model _ _
-    (λ files name. of_all (λ (texts : Texts). Makes before now (with_table base texts texts.table) (both_lengths texts + length texts.table)) (AllHeld base before.held now.held) files name (λ texts m. m.held))
-    (same_job (λ (m b : List ℕ). WhereTold before.held m (OfTexts (λ (texts : Texts). Makes before now (with_table b texts texts.table) (both_lengths texts + length texts.table)))) job other over model base f is written))
+    (same_job (λ (m b : List ℕ). HoldsAllFiles before now m b) job other over model base f is
+    (of_all _ (λ (printed : List ℕ) (texts : Texts). now.held ≡ option_map (with_table over texts texts.table) before.held) before.held other (λ printed texts both. both.1.held) of))

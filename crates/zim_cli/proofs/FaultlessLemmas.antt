@@ -1,13 +1,16 @@
 -- A folder that promises to fail at nothing fails at nothing in a run that has room below the limit of its promise.
 use Rattle.std.proofs.Common.{◌≡◌, ℕ, ◌+◌, ◌<◌, ◌≤◌, List, ◌++◌, length, Option, Some, option_map, inl, inr, ◌∙◌, ap, arith, length-append}
 use Rattle.zim_gate.specs.Counts.{Rose, count_on, IsFrontOf}
-use Rattle.zim_gate.specs.Folder.{FolderState, Files, IsSound}
+use Rattle.zim_gate.specs.Folder.{FolderState, HeldFiles, IsSound}
+use Rattle.zim_gate.specs.Sink.{SinkState}
 use Rattle.zim_cli.specs.declared.ending.Ending.{Ending}
 use Rattle.zim_cli.specs.declared.jobs.Job.{Job}
+use Rattle.zim_cli.specs.declared.jobs.Job.TheVariants.{Compile}
 use Rattle.zim_cli.specs.declared.outputs.Output.{Output}
 use Rattle.zim_cli.specs.Headline.{NothingRose, HasRoom, MustNotFail}
-use Rattle.zim_cli.specs.Outputs.{Texts, texts_of, all_lengths, with_table, Makes, IsEmptyFrontOf, IsStoppedAt, StopsAt, untouched, emptied, lp_kept, lp_part, mps_kept, mps_part, table_kept, table_part}
-use Rattle.zim_cli.specs.Run.{Ended, OfTexts, usage, refused, unread, unwritten, no_memory, no_memory_to_begin, done}
+use Rattle.zim_build.specs.Model.{statement_names}
+use Rattle.zim_cli.specs.Outputs.{Texts, texts_of, all_lengths, Makes, IsEmptyFrontOf, StopsAt, untouched, emptied, lp_kept, lp_part, mps_kept, mps_part, table_kept, table_part}
+use Rattle.zim_cli.specs.Run.{Ended, OfModel, IsStopped, usage, refused, unread, unput, unwritten, no_memory, no_memory_to_begin, done}
 use Rattle.zim_cli.specs.WriteFile.{KeepsFiles}
 use Rattle.zim_cli.proofs.RunLemmas.{no_job, model_of}
 
@@ -28,7 +31,7 @@ kept_below before now wrote limit sound told promise low keeps =
     nothing_rose before now wrote limit sound (keeps.wrote ∙ told) (keeps.faultless_below ∙ promise) low
 
 -- where so many were
-made_below : (before now : FolderState) (change : Files → Files) (n wrote limit : ℕ) → IsSound now → before.wrote ≡ Some wrote → before.faultless_below ≡ Some limit → wrote + n < limit → Makes before now change n → NothingRose before now
+made_below : (before now : FolderState) (change : HeldFiles → HeldFiles) (n wrote limit : ℕ) → IsSound now → before.wrote ≡ Some wrote → before.faultless_below ≡ Some limit → wrote + n < limit → Makes before now change n → NothingRose before now
 made_below before now change n wrote limit sound told promise low makes =
     nothing_rose before now (count_on n wrote) limit sound (makes.wrote ∙ ap (option_map (count_on n)) told) (makes.faultless_below ∙ promise) (omega (arith, low))
 
@@ -44,7 +47,7 @@ empty_short : AreShort IsEmptyFrontOf
 empty_short front text is = let none : length front ≡ 0 = ap length is in omega (arith, none)
 
 -- where the writing stopped, no more than the texts was put
-stops_within : (IsPart : List ℕ → List ℕ → Type 0) (base : List ℕ) (texts : Texts) (output : Output) (change : Files → Files) (n : ℕ) → AreShort IsPart → StopsAt IsPart base texts output change n → n ≤ all_lengths texts
+stops_within : (IsPart : List ℕ → List ℕ → Type 0) (base : List ℕ) (texts : Texts) (output : Output) (change : HeldFiles → HeldFiles) (n : ℕ) → AreShort IsPart → StopsAt IsPart base texts output change n → n ≤ all_lengths texts
 stops_within IsPart base texts _ _ _ short untouched = omega arith
 stops_within IsPart base texts _ _ _ short emptied = omega arith
 stops_within IsPart base texts _ _ _ short lp_kept = omega arith
@@ -54,32 +57,34 @@ stops_within IsPart base texts _ _ _ short (mps_part front is) = omega (arith, s
 stops_within IsPart base texts _ _ _ short table_kept = omega arith
 stops_within IsPart base texts _ _ _ short (table_part front is) = omega (arith, short front texts.table is)
 
-stopped_below : (IsPart : List ℕ → List ℕ → Type 0) (before now : FolderState) (base : List ℕ) (output : Output) (model : List ℕ) (files : Files) (wrote limit : ℕ) → AreShort IsPart → IsSound now → before.wrote ≡ Some wrote → before.faultless_below ≡ Some limit →
-    HasRoom files model wrote limit → OfTexts (λ texts. IsStoppedAt IsPart before now base texts output) files model → NothingRose before now
-stopped_below IsPart before now base output model files wrote limit short sound told promise room of =
-    let within : of.is.bytes ≤ all_lengths (texts_of of.system) = stops_within IsPart base (texts_of of.system) output of.is.change of.is.bytes short of.is.at in
-    made_below before now of.is.change of.is.bytes wrote limit sound told promise
-    (omega (arith, within, room.texts of.model of.system of.read of.is_system))
-    of.is.makes
+-- what a model's texts are, at the room of the run
+room_of : (job : Option Job) (before : FolderState) (model base other over : List ℕ) (files : HeldFiles) (wrote limit : ℕ) (Is : List ℕ → Texts → Type 0) → job ≡ Some (Compile model base) → job ≡ Some (Compile other over) → before.held ≡ Some files →
+    HasRoom files model wrote limit → (of : OfModel before.held other Is) → wrote + all_lengths (texts_of of.program of.columns (statement_names of.model)) < limit
+room_of job before model base other over files wrote limit Is e f at room of =
+    room.texts of.model of.opened of.columns of.program (model_of before job model base other over files Is e f at of) of.is_program
 
--- what is so of the texts of a model
-abbrev AllMade : FolderState → FolderState → List ℕ → Texts → Type 0
-AllMade before now base texts = Makes before now (with_table base texts texts.table) (all_lengths texts)
+stopped_below : (IsPart : List ℕ → List ℕ → Type 0) (job : Option Job) (before now : FolderState) (o n : SinkState) (model base other over : List ℕ) (output : Output) (files : HeldFiles) (wrote limit : ℕ) → AreShort IsPart → IsSound now →
+    job ≡ Some (Compile model base) → job ≡ Some (Compile other over) → before.held ≡ Some files → before.wrote ≡ Some wrote → before.faultless_below ≡ Some limit →
+    HasRoom files model wrote limit → IsStopped IsPart before now o n other over output → NothingRose before now
+stopped_below IsPart job before now o n model base other over output files wrote limit short sound e f at told promise room of =
+    let stopped = of.is.1 in
+    let within = stops_within IsPart over _ output stopped.change stopped.bytes short stopped.at in
+    made_below before now stopped.change stopped.bytes wrote limit sound told promise
+    (omega (arith, within, room_of job before model base other over files wrote limit _ e f at room of))
+    stopped.makes
 
 -- a run with room below the limit of the folder's promise fails at nothing
-pub must_not_fail : (job : Option Job) (before now : FolderState) (ending : Ending) → IsSound now → Ended job before now ending → MustNotFail job before now
-must_not_fail job before now _ sound (usage none same) model base files wrote limit is at told promise room = absurd (no_job job model base none is)
-must_not_fail job before now _ sound (refused other over fault others f place why held) model base files wrote limit is at told promise room = kept_below before now wrote limit sound told promise room.before held
-must_not_fail job before now _ sound (unread other over name f why held) model base files wrote limit is at told promise room = kept_below before now wrote limit sound told promise room.before held
-must_not_fail job before now _ sound (unwritten other over output f rose stopped) model base files wrote limit is at told promise room =
-    stopped_below IsFrontOf before now over output model files wrote limit fronts_short sound told promise room
-    (model_of job before model base other over files (λ texts. IsStoppedAt IsFrontOf before now over texts output) is f at stopped)
-must_not_fail job before now _ sound (no_memory held) model base files wrote limit is at told promise room = kept_below before now wrote limit sound told promise room.before held
-must_not_fail job before now _ sound (no_memory_to_begin other over output f stopped) model base files wrote limit is at told promise room =
-    stopped_below IsEmptyFrontOf before now over output model files wrote limit empty_short sound told promise room
-    (model_of job before model base other over files (λ texts. IsStoppedAt IsEmptyFrontOf before now over texts output) is f at stopped)
-must_not_fail job before now _ sound (done other over f written) model base files wrote limit is at told promise room =
-    let of : OfTexts (AllMade before now over) files model = model_of job before model base other over files (AllMade before now over) is f at written in
-    made_below before now (with_table over (texts_of of.system) (texts_of of.system).table) (all_lengths (texts_of of.system)) wrote limit sound told promise
-    (room.texts of.model of.system of.read of.is_system)
-    of.is
+pub must_not_fail : (job : Option Job) (before now : FolderState) (o n : SinkState) (ending : Ending) → IsSound now → Ended job before now o n ending → MustNotFail job before now
+must_not_fail job before now o n _ sound (usage none same still) model base files wrote limit is at told promise room = absurd (no_job job model base none is)
+must_not_fail job before now o n _ sound (refused other over fault opened printed f place own why may takes held) model base files wrote limit is at told promise room = kept_below before now wrote limit sound told promise room.before held
+must_not_fail job before now o n _ sound (unread other over name printed f why takes held) model base files wrote limit is at told promise room = kept_below before now wrote limit sound told promise room.before held
+must_not_fail job before now o n _ sound (unput other over printed f why stops held) model base files wrote limit is at told promise room = kept_below before now wrote limit sound told promise room.before held
+must_not_fail job before now o n _ sound (unwritten other over output f rose stopped) model base files wrote limit is at told promise room =
+    stopped_below IsFrontOf job before now o n model base other over output files wrote limit fronts_short sound is f at told promise room stopped
+must_not_fail job before now o n _ sound (no_memory still held) model base files wrote limit is at told promise room = kept_below before now wrote limit sound told promise room.before held
+must_not_fail job before now o n _ sound (no_memory_to_begin other over output f stopped) model base files wrote limit is at told promise room =
+    stopped_below IsEmptyFrontOf job before now o n model base other over output files wrote limit empty_short sound is f at told promise room stopped
+must_not_fail job before now o n _ sound (done other over f none_begun of) model base files wrote limit is at told promise room =
+    made_below before now _ _ wrote limit sound told promise
+    (room_of job before model base other over files wrote limit _ is f at room of)
+    of.is.1

@@ -1,19 +1,9 @@
-pub mod SameTexts
-mod ParsedLemmas
-mod ParsingLemmas
-mod RowPositions
-mod BreakLemmas
-mod CompileLemmas
 mod EndedTable
-mod FaultPlaces
-mod FieldLemmas
-mod SpanLemmas
-mod FirstFaultLemmas
 mod FilesOfLemmas
 mod OutputsLemmas
 mod PairLemmas
 mod PerformLemmas
+mod PrintingLemmas
 mod RunLemmas
 mod FaultlessLemmas
-mod TokensLemmas
 mod WriteFileLemmas

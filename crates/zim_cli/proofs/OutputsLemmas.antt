@@ -3,7 +3,7 @@ use Rattle.std.proofs.Common.{zero-add, sym, ◌≡◌, ℕ, ◌≤◌, List, []
 use Rattle.std.specs.Prelude.{⊤, ◌⊎◌, ◌+◌, length}
 use Rattle.std.specs.FinMap as map
 use Rattle.zim_gate.specs.Counts.{Rose, count_on, IsFrontOf}
-use Rattle.zim_gate.specs.Folder.{FolderState, Files}
+use Rattle.zim_gate.specs.Folder.{FolderState, HeldFiles}
 use Rattle.zim_gate.specs.declared.stops.BeginStop.{BeginStop}
 use Rattle.zim_gate.specs.declared.stops.BeginStop.TheVariants as stop
 use Rattle.zim_cli.specs.declared.outputs.Output.{Output}
@@ -11,11 +11,11 @@ use Rattle.zim_cli.specs.declared.outputs.Output.TheVariants.{Lp, Mps, Table}
 use Rattle.zim_cli.specs.Outputs.{both_lengths, output_name, Texts, without_table, with_lp, with_mps, StopsAt, untouched, emptied, lp_kept, lp_part, mps_kept, mps_part, table_kept, table_part, Makes, IsEmptyFrontOf, IsStoppedAt, stop_at_output, WritesAll}
 use Rattle.zim_cli.specs.WriteFile.{KeepsFiles, HoldsOnly, IsPartOf, WritesFile}
 
-held_then : (held : Option Files) (f g : Files → Files) → option_map g (option_map f held) ≡ option_map (λ (files : Files). g (f files)) held
+held_then : (held : Option HeldFiles) (f g : HeldFiles → HeldFiles) → option_map g (option_map f held) ≡ option_map (λ (files : HeldFiles). g (f files)) held
 held_then None f g = refl
 held_then (Some files) f g = refl
 
-held_same : (held : Option Files) → held ≡ option_map (λ (files : Files). files) held
+held_same : (held : Option HeldFiles) → held ≡ option_map (λ (files : HeldFiles). files) held
 held_same None = refl
 held_same (Some files) = refl
 
@@ -28,27 +28,27 @@ count_then None m n = refl
 count_then (Some c) m n = let same : count_on n (count_on m c) ≡ count_on (m + n) c = omega arith in ap Some same
 
 -- a file more holds its bytes
-then_holds : (before between now : FolderState) (change : Files → Files) (n : ℕ) (name bytes : List ℕ) → Makes before between change n → HoldsOnly between now name bytes → Makes before now (λ files. map.insert (change files) name bytes) (n + length bytes)
+then_holds : (before between now : FolderState) (change : HeldFiles → HeldFiles) (n : ℕ) (name bytes : List ℕ) → Makes before between change n → HoldsOnly between now name bytes → Makes before now (λ files. map.insert (change files) name bytes) (n + length bytes)
 then_holds before between now change n name bytes makes holds = record {
   held =
       holds.held
-      ∙ ap (λ (held : Option Files). option_map (λ (files : Files). map.insert files name bytes) held) makes.held
+      ∙ ap (λ (held : Option HeldFiles). option_map (λ (files : HeldFiles). map.insert files name bytes) held) makes.held
       ∙ held_then before.held change (λ files. map.insert files name bytes);
   wrote = holds.wrote ∙ ap (option_map (count_on (length bytes))) makes.wrote ∙ count_then before.wrote n (length bytes);
   faultless_below = holds.faultless_below ∙ makes.faultless_below;
 }
 
 -- a step that changed nothing
-then_keeps : (before between now : FolderState) (change : Files → Files) (n : ℕ) → Makes before between change n → KeepsFiles between now → Makes before now change n
+then_keeps : (before between now : FolderState) (change : HeldFiles → HeldFiles) (n : ℕ) → Makes before between change n → KeepsFiles between now → Makes before now change n
 then_keeps before between now change n makes keeps = record { held = keeps.held ∙ makes.held; wrote = keeps.wrote ∙ makes.wrote; faultless_below = keeps.faultless_below ∙ makes.faultless_below }
 
 -- what the files may be made where this step stops
-record Stage (IsPart : List ℕ → List ℕ → Type 0) (base : List ℕ) (texts : Texts) (output : Output) (change : Files → Files) (n : ℕ) (name text : List ℕ) : Type 0 where
+record Stage (IsPart : List ℕ → List ℕ → Type 0) (base : List ℕ) (texts : Texts) (output : Output) (change : HeldFiles → HeldFiles) (n : ℕ) (name text : List ℕ) : Type 0 where
   kept : StopsAt IsPart base texts output change n
   part : (front : List ℕ) → IsPart front text → StopsAt IsPart base texts output (λ files. map.insert (change files) name front) (n + length front)
 
 -- a step that stopped: the files are as before it, or with a part of its text
-stopped_in : (IsPart : List ℕ → List ℕ → Type 0) (before between now : FolderState) (base : List ℕ) (texts : Texts) (output : Output) (change : Files → Files) (n : ℕ) (name text : List ℕ) → Makes before between change n → Stage IsPart base texts output change n name text → KeepsFiles between now ⊎ ((front : List ℕ) × IsPart front text × HoldsOnly between now name front) → IsStoppedAt IsPart before now base texts output
+stopped_in : (IsPart : List ℕ → List ℕ → Type 0) (before between now : FolderState) (base : List ℕ) (texts : Texts) (output : Output) (change : HeldFiles → HeldFiles) (n : ℕ) (name text : List ℕ) → Makes before between change n → Stage IsPart base texts output change n name text → KeepsFiles between now ⊎ ((front : List ℕ) × IsPart front text × HoldsOnly between now name front) → IsStoppedAt IsPart before now base texts output
 stopped_in IsPart before between now base texts output change n name text makes stage (inl same) = record { change = change; bytes = n; at = stage.kept; makes = then_keeps before between now change n makes same }
 stopped_in IsPart before between now base texts output change n name text makes stage (inr (front, is, holds)) =
     record { change = _; bytes = n + length front; at = stage.part front is; makes = then_holds before between now change n name front makes holds }
@@ -61,7 +61,7 @@ Rose-from : (a b c : ℕ) → a ≤ b → Rose b c → Rose a c
 Rose-from a b c h r = elim r [ inl lt ↦ inl (omega arith) | inr last ↦ inr last ]
 
 -- what is so after some steps
-pub record SoFar (before now : FolderState) (change : Files → Files) (n : ℕ) : Type 0 where
+pub record SoFar (before now : FolderState) (change : HeldFiles → HeldFiles) (n : ℕ) : Type 0 where
   pub makes : Makes before now change n
   pub low : before.write_faults ≤ now.write_faults
 
@@ -69,7 +69,7 @@ pub record SoFar (before now : FolderState) (change : Files → Files) (n : ℕ)
 unwritten_all : (before between now : FolderState) (base : List ℕ) (texts : Texts) (output : Output) (name text : List ℕ) → before.write_faults ≤ between.write_faults → WritesFile between now name text (Err stop.Failed) → IsStoppedAt IsFrontOf before now base texts output → WritesAll before now base texts (Err (stop_at_output output stop.Failed))
 unwritten_all before between now base texts output name text low writes stopped = (stopped, Rose-from before.write_faults between.write_faults now.write_faults low (writes.failed refl))
 
-all_stopped : (before between now : FolderState) (base : List ℕ) (texts : Texts) (output : Output) (change : Files → Files) (n : ℕ) (name text : List ℕ) (s : BeginStop) → SoFar before between change n → ((IsPart : List ℕ → List ℕ → Type 0) → Stage IsPart base texts output change n name text) → WritesFile between now name text (Err s) → WritesAll before now base texts (Err (stop_at_output output s))
+all_stopped : (before between now : FolderState) (base : List ℕ) (texts : Texts) (output : Output) (change : HeldFiles → HeldFiles) (n : ℕ) (name text : List ℕ) (s : BeginStop) → SoFar before between change n → ((IsPart : List ℕ → List ℕ → Type 0) → Stage IsPart base texts output change n name text) → WritesFile between now name text (Err s) → WritesAll before now base texts (Err (stop_at_output output s))
 all_stopped before between now base texts output change n name text stop.Failed far stage writes =
     unwritten_all before between now base texts output name text far.low writes
     (stopped_in IsFrontOf before between now base texts output change n name text far.makes (stage IsFrontOf) writes.err)
@@ -82,7 +82,7 @@ nothing_made state = record { held = held_same state.held; wrote = no_count stat
 so_far_none : (state : FolderState) → SoFar state state (λ files. files) 0
 so_far_none state = record { makes = nothing_made state; low = omega arith }
 
-more : (before between now : FolderState) (change : Files → Files) (n : ℕ) (name text : List ℕ) → SoFar before between change n → WritesFile between now name text (Ok tt) → SoFar before now (λ files. map.insert (change files) name text) (n + length text)
+more : (before between now : FolderState) (change : HeldFiles → HeldFiles) (n : ℕ) (name text : List ℕ) → SoFar before between change n → WritesFile between now name text (Ok tt) → SoFar before now (λ files. map.insert (change files) name text) (n + length text)
 more before between now change n name text far writes = record {
   makes = then_holds before between now change n name text far.makes writes.ok;
   low = omega (arith, far.low, writes.write_faults);
@@ -140,7 +140,8 @@ mps_stopped before between now base name texts r s e is far writes =
 
 pub table_written : (before between now : FolderState) (base name : List ℕ) (texts : Texts) (r : Result ⊤ BeginStop) → name ≡ output_name base Table → r ≡ Ok tt → SoFar before between (with_mps base texts texts.mps) (both_lengths texts) → WritesFile between now name texts.table r → WritesAll before now base texts (Ok tt)
 table_written before between now base name texts r e is far writes =
-    (more before between now (with_mps base texts texts.mps) (both_lengths texts) (output_name base Table) texts.table far (written between now name (output_name base Table) texts.table r (Ok tt) e is writes)).makes
+    let at : WritesFile between now (output_name base Table) texts.table (Ok tt) = written between now name (output_name base Table) texts.table r (Ok tt) e is writes in
+    ((more before between now (with_mps base texts texts.mps) (both_lengths texts) (output_name base Table) texts.table far at).makes, at.ended)
 
 pub table_stopped : (before between now : FolderState) (base name : List ℕ) (texts : Texts) (r : Result ⊤ BeginStop) (s : BeginStop) → name ≡ output_name base Table → r ≡ Err s → SoFar before between (with_mps base texts texts.mps) (both_lengths texts) → WritesFile between now name texts.table r → WritesAll before now base texts (Err (stop_at_output Table s))
 table_stopped before between now base name texts r s e is far writes =

@@ -1,14 +1,23 @@
--- How a compilation and the writing of its files end a run.
-use Rattle.std.proofs.Common.{◌≡◌, ℕ, List, ◌∷◌, Option, None, Some, option_map, Result, Ok, Err, refl, sym, ◌∙◌, ap, subst, IfOk, IfErr}
-use Rattle.std.specs.Prelude.{⊤, ◌+◌, length}
+-- How compiling, printing and the writing of files end a run.
+use Rattle.std.proofs.Common.{◌≡◌, ℕ, List, Option, None, Some, option_map, Result, Ok, Err, refl, sym, ◌∙◌, ap, subst, IfOk, length, arith}
+use Rattle.std.specs.Prelude.{⊤, ◌+◌}
+use Rattle.std.proofs.lemmas.List.Elements.{recursion_from_All}
+use Rattle.zim_fault.specs.declared.faults.Fault.{Fault}
 use Rattle.zim_gate.specs.Counts.{Rose, count_on, IsFrontOf}
-use Rattle.zim_gate.specs.Folder.{FolderState, Files}
+use Rattle.zim_gate.specs.Folder.{FolderState, HeldFiles, OnlyRead}
+use Rattle.zim_gate.specs.Sink.{SinkState, SinkStopsIn}
 use Rattle.zim_rows.specs.Finished.{program_of}
+use Rattle.zim_rows.specs.Program.{LinearProgram}
 use Rattle.zim_lp.proofs.TextLaws as lp
 use Rattle.zim_mps.proofs.TextLaws as mps
-use Rattle.zim_table.specs.Correct.{CanBeListed}
+use Rattle.zim_table.specs.Correct.{IsListed, CanBeListed}
+use Rattle.zim_table.specs.declared.names.Names.{Names}
 use Rattle.zim_table.proofs.TextLaws as table
-use Rattle.zim_plain.specs.declared.plain_form.PlainModel.{PlainModel}
+use Rattle.zim_build.specs.declared.compiled.Compiled.{Compiled}
+use Rattle.zim_build.specs.declared.compiled.BuildFault.{BuildFault}
+use Rattle.zim_build.specs.declared.compiled.BuildFault.TheVariants as build
+use Rattle.zim_build.specs.Compile.{IsCompiledFor, Compiles}
+use Rattle.zim_build.specs.Model.{statement_names}
 use Rattle.zim_cli.specs.declared.outputs.Output.{Output}
 use Rattle.zim_cli.specs.declared.outputs.Output.TheVariants.{Lp, Mps, Table}
 use Rattle.zim_cli.specs.declared.outputs.OutputNames.{OutputNames}
@@ -18,91 +27,108 @@ use Rattle.zim_cli.specs.declared.ending.Ending.{Ending}
 use Rattle.zim_cli.specs.declared.ending.Ending.TheVariants as ending
 use Rattle.zim_cli.specs.declared.jobs.Job.{Job}
 use Rattle.zim_cli.specs.declared.jobs.Job.TheVariants.{Compile}
-use Rattle.zim_cli.specs.Compile.{WhereTold, HasSystem, Makes, made, refused, unread, no_memory, Compiles}
 use Rattle.zim_cli.specs.Ending.{IsReportable, ending_of_writing}
+use Rattle.zim_cli.specs.FilesOf.{AreFilesOf}
 use Rattle.zim_cli.specs.Outputs as outputs
-use Rattle.zim_cli.specs.Outputs.{AreNamesOf, name_in, output_name, Texts, both_lengths, names_of_statements, texts_of, with_table, IsEmptyFrontOf, IsStoppedAt, WritesAll}
+use Rattle.zim_cli.specs.Outputs.{AreNamesOf, name_in, output_name, Texts, both_lengths, texts_of, with_table, IsEmptyFrontOf, IsStoppedAt, WritesAll}
+use Rattle.zim_cli.specs.Printing.{TakesPrinted, EndsWith, put, failed, EndsUncompiled, by_model, by_fault, by_unread}
 use Rattle.zim_cli.specs.WriteFile.{KeepsFiles}
 use Rattle.zim_cli.specs.Run as run
-use Rattle.zim_cli.specs.Run.{Ended, OfTexts}
-use Rattle.zim_cli.proofs.CompileLemmas.{where_map}
-use Rattle.zim_cli.proofs.FilesOfLemmas.{files_of_system}
+use Rattle.zim_cli.specs.Run.{Ended, OfModel}
+use Rattle.zim_cli.proofs.FilesOfLemmas.{files_of_program}
+use Rattle.zim_cli.proofs.PairLemmas.{numbered_in}
 
--- a compilation that stopped ends the run
-stops_early : (before now : FolderState) (model base : List ℕ) (r : Result PlainModel Ending) (e : Ending) → r ≡ Err e → Makes before now model r → IfErr r IsReportable → KeepsFiles before now →
-    Ended (Some (Compile model base)) before now e
-stops_early before now model base _ e is (made plain told listed) place held = absurd (cc)
-stops_early before now model base _ e is (refused fault others why) place held =
-    let same : ending.Refused fault (model ∷ others) ≡ e = cc in
-    subst (λ (x : Ending). Ended (Some (Compile model base)) before now x) same (run.refused model base fault others refl place why held)
-stops_early before now model base _ e is (unread name why) place held =
-    let same : ending.Unread name ≡ e = cc in
-    subst (λ (x : Ending). Ended (Some (Compile model base)) before now x) same (run.unread model base name refl why held)
-stops_early before now model base _ e is no_memory place held =
-    let same : ending.Memory ≡ e = cc in
-    subst (λ (x : Ending). Ended (Some (Compile model base)) before now x) same (run.no_memory held)
+keeps : (before now : FolderState) → OnlyRead before now → KeepsFiles before now
+keeps before now only = record { held = only.held; wrote = only.wrote; faultless_below = only.faultless_below }
 
-pub compile_stopped : (before now : FolderState) (model base : List ℕ) (r : Result PlainModel Ending) (e : Ending) → r ≡ Err e → Compiles before now model r →
-    Ended (Some (Compile model base)) before now e
-compile_stopped before now model base r e is compiles = stops_early before now model base r e is compiles.makes compiles.reportable compiles.keeps
+-- what compiling answers, where its result is known
+pub compiles_to : (before now : FolderState) (model : List ℕ) (r known : Result Compiled BuildFault) → r ≡ known → Compiles before now model r → Compiles before now model known
+compiles_to before now model r known is compiles = subst (Compiles before now model) is compiles
 
--- memory was refused between the compilation and the writing
-pub name_refused : (before now : FolderState) (model base : List ℕ) (r : Result PlainModel Ending) → Compiles before now model r → Ended (Some (Compile model base)) before now ending.Memory
-name_refused before now model base r compiles = run.no_memory compiles.keeps
+-- ---- a model that is refused or unread, with what it prints put or not
 
--- what a compilation made
-pub record Made (before between : FolderState) (model : List ℕ) (read : PlainModel) : Type 0 where
-  pub listed : CanBeListed (program_of read.system) read.variables (names_of_statements read)
-  pub keeps : KeepsFiles before between
-  pub write_faults : between.write_faults ≡ before.write_faults
-  pub told : WhereTold before.held model (HasSystem read)
+refused_ends : (before now : FolderState) (o n : SinkState) (model base : List ℕ) (fault : Fault) (opened : List (List ℕ)) (printed : List ℕ) (e : Ending) → Compiles before now model (Err (build.Refused fault opened printed)) →
+    EndsWith o n printed (ending.Refused fault opened) e → Ended (Some (Compile model base)) before now o n e
+refused_ends before now o n model base fault opened printed _ compiles (put takes) =
+    run.refused model base fault opened printed refl compiles.answers.place compiles.answers.own compiles.answers.read compiles.answers.printable takes (keeps before now compiles.only)
+refused_ends before now o n model base fault opened printed _ compiles (failed stops) =
+    run.unput model base printed refl (by_fault fault opened compiles.answers.read compiles.answers.printable) stops (keeps before now compiles.only)
 
--- results that are one
-in_ok : {A E : Type 0} (x y : A) → ◌≡◌ {A = Result A E} (Ok x) (Ok y) → x ≡ y
-in_ok x y e = cc
+-- the line of a refusal can be put
+refused_reports : (before now : FolderState) (o n : SinkState) (model : List ℕ) (fault : Fault) (opened : List (List ℕ)) (printed : List ℕ) (e : Ending) → Compiles before now model (Err (build.Refused fault opened printed)) →
+    EndsWith o n printed (ending.Refused fault opened) e → IsReportable e
+refused_reports before now o n model fault opened printed _ compiles (put takes) = compiles.answers.place
+refused_reports before now o n model fault opened printed _ compiles (failed stops) = tt
 
-not_ok : {A E : Type 0} (e : E) (x : A) → ◌≡◌ {A = Result A E} (Err e) (Ok x) → ⊥
-not_ok e x is = cc
+unread_ends : (before now : FolderState) (o n : SinkState) (model base name printed : List ℕ) (e : Ending) → Compiles before now model (Err (build.Read name printed)) → EndsWith o n printed (ending.Unread name) e →
+    Ended (Some (Compile model base)) before now o n e
+unread_ends before now o n model base name printed _ compiles (put takes) =
+    run.unread model base name printed refl compiles.answers takes (keeps before now compiles.only)
+unread_ends before now o n model base name printed _ compiles (failed stops) =
+    run.unput model base printed refl (by_unread name compiles.answers) stops (keeps before now compiles.only)
 
-made_from : (before between : FolderState) (model : List ℕ) (r : Result PlainModel Ending) (plain : PlainModel) → r ≡ Ok plain → Makes before between model r →
-    KeepsFiles before between → between.write_faults ≡ before.write_faults → Made before between model plain
-made_from before between model _ plain is (made other told listed) held faults =
-    subst (λ (p : PlainModel). Made before between model p) (in_ok other plain is)
-    (record {
-      listed = listed;
-      keeps = held;
-      write_faults = faults;
-      told = told;
-    })
-made_from before between model _ plain is (refused fault others why) held faults = absurd (not_ok _ plain is)
-made_from before between model _ plain is (unread name why) held faults = absurd (not_ok _ plain is)
-made_from before between model _ plain is no_memory held faults = absurd (not_ok _ plain is)
+unread_reports : (o n : SinkState) (name printed : List ℕ) (e : Ending) → EndsWith o n printed (ending.Unread name) e → IsReportable e
+unread_reports o n name printed _ (put takes) = tt
+unread_reports o n name printed _ (failed stops) = tt
 
-pub made_by : (before between : FolderState) (model : List ℕ) (r : Result PlainModel Ending) (plain : PlainModel) → r ≡ Ok plain → Compiles before between model r → Made before between model plain
-made_by before between model r plain is compiles = made_from before between model r plain is compiles.makes compiles.keeps compiles.write_faults
+-- what wasn't compiled, whatever the reason
+pub uncompiled_ends : (before now : FolderState) (o n : SinkState) (model base : List ℕ) (why : BuildFault) (e : Ending) → Compiles before now model (Err why) → EndsUncompiled o n why e →
+    Ended (Some (Compile model base)) before now o n e
+uncompiled_ends before now o n model base (build.Refused fault opened printed) e compiles ends = refused_ends before now o n model base fault opened printed e compiles ends
+uncompiled_ends before now o n model base (build.Read name printed) e compiles ends = unread_ends before now o n model base name printed e compiles ends
+uncompiled_ends before now o n model base build.Memory e compiles ends =
+    subst (λ (x : Ending). Ended (Some (Compile model base)) before now o n x) (sym ends.0) (run.no_memory ends.1 (keeps before now compiles.only))
 
--- what is so of the texts of the system is so of the files of the model
-of_texts : (read : PlainModel) (Is : Texts → Type 0) → CanBeListed (program_of read.system) read.variables (names_of_statements read) → Is (texts_of read) → (files : Files) (name : List ℕ) → HasSystem read files name → OfTexts Is files name
-of_texts read Is listed is files name has = record {
-  model = has.model;
-  read = has.read;
-  system = read;
-  is_system = has.says;
-  say = files_of_system has.model read has.says
-      (lp.text_says (program_of read.system) read.system.program)
-      (mps.text_says (program_of read.system) read.system.program)
-      (table.text_says (program_of read.system) read.variables (names_of_statements read) read.system.program listed);
-  is = is;
-}
+pub uncompiled_reports : (before now : FolderState) (o n : SinkState) (model : List ℕ) (why : BuildFault) (e : Ending) → Compiles before now model (Err why) → EndsUncompiled o n why e → IsReportable e
+uncompiled_reports before now o n model (build.Refused fault opened printed) e compiles ends = refused_reports before now o n model fault opened printed e compiles ends
+uncompiled_reports before now o n model (build.Read name printed) e compiles ends = unread_reports o n name printed e ends
+uncompiled_reports before now o n model build.Memory e compiles ends = subst IsReportable (sym ends.0) tt
 
-of_files : (before between : FolderState) (model : List ℕ) (read : PlainModel) → Made before between model read → (Is : Texts → Type 0) → Is (texts_of read) → WhereTold before.held model (OfTexts Is)
-of_files before between model read by Is at =
-    where_map before.held model (HasSystem read) (OfTexts Is) (of_texts read Is by.listed at) by.told
+-- memory was refused before anything was put
+pub memory_ends : (before now : FolderState) (o : SinkState) (model base : List ℕ) (r : Result Compiled BuildFault) → Compiles before now model r → Ended (Some (Compile model base)) before now o o ending.Memory
+memory_ends before now o model base r compiles = run.no_memory refl (keeps before now compiles.only)
+
+-- what a model prints couldn't be put
+pub model_unput : (before now : FolderState) (o n : SinkState) (model base : List ℕ) (made : Compiled) → Compiles before now model (Ok made) → SinkStopsIn o n made.printed → Ended (Some (Compile model base)) before now o n ending.Unput
+model_unput before now o n model base made compiles stops =
+    run.unput model base made.printed refl (by_model compiles.answers.model made.files compiles.answers.read compiles.answers.is.printed) stops (keeps before now compiles.only)
+
+-- ---- a compiled model
+
+-- its table can be written
+pub can_be_listed : (before now : FolderState) (model : List ℕ) (made : Compiled) → Compiles before now model (Ok made) → CanBeListed (program_of made.system) made.columns made.names
+can_be_listed before now model made compiles = compiles.answers.is.listable
+
+-- the texts of its program are its files
+its_files : (before : FolderState) (name : List ℕ) (made : Compiled) (for : IsCompiledFor before name made) → AreFilesOf for.model made.columns (texts_of (program_of made.system) made.columns made.names)
+its_files before name made for =
+    let program : LinearProgram = program_of made.system in
+    files_of_program for.model made.columns program made.names made.system.program for.is.says for.is.columns
+    for.is.listable.rising
+    (numbered_in (length program.columns) 1 made.columns (omega arith) for.is.listable.rising (recursion_from_All (IsListed (length program.columns)) made.columns for.is.listable.listed))
+    (lp.text_says program made.system.program)
+    (mps.text_says program made.system.program)
+    (table.text_says program made.columns made.names made.system.program for.is.parts for.is.listable)
+
+of_model : (before : FolderState) (name : List ℕ) (made : Compiled) (for : IsCompiledFor before name made) (Is : (printed : List ℕ) → Texts → Type 0) → Is made.printed (texts_of (program_of made.system) made.columns made.names) → OfModel before.held name Is
+of_model before name made for Is is =
+    let program : LinearProgram = program_of made.system in
+    record {
+      model = for.model;
+      opened = made.files;
+      read = for.read;
+      columns = made.columns;
+      program = program;
+      is_program = for.is.program;
+      say = subst (λ (names : Names). AreFilesOf for.model made.columns (texts_of program made.columns names)) for.is.names (its_files before name made for);
+      is = subst (λ (printed : List ℕ). Is printed (texts_of program made.columns (statement_names for.model))) for.is.printed
+          (subst (λ (names : Names). Is made.printed (texts_of program made.columns names)) for.is.names is);
+    }
 
 -- what is said of the files before the writing is said of those before the compilation
-makes_since : (before between now : FolderState) (change : Files → Files) (n : ℕ) → KeepsFiles before between → outputs.Makes between now change n → outputs.Makes before now change n
+makes_since : (before between now : FolderState) (change : HeldFiles → HeldFiles) (n : ℕ) → KeepsFiles before between → outputs.Makes between now change n → outputs.Makes before now change n
 makes_since before between now change n same makes = record {
-  held = makes.held ∙ ap (λ (held : Option Files). option_map change held) same.held;
+  held = makes.held ∙ ap (λ (held : Option HeldFiles). option_map change held) same.held;
   wrote = makes.wrote ∙ ap (λ (wrote : Option ℕ). option_map (count_on n) wrote) same.wrote;
   faultless_below = makes.faultless_below ∙ same.faultless_below;
 }
@@ -116,30 +142,41 @@ named base names Lp are = are.lp
 named base names Mps are = are.mps
 named base names Table are = are.table
 
-ends : (before between now : FolderState) (model base : List ℕ) (read : PlainModel) (names : OutputNames) (w : Result ⊤ OutputStop) → AreNamesOf base names → Made before between model read → WritesAll between now base (texts_of read) w → Ended (Some (Compile model base)) before now (ending_of_writing names w)
-ends before between now model base read names (Ok x) are by writes =
-    run.done model base refl
-    (of_files before between model read by (λ (texts : Texts). outputs.Makes before now (with_table base texts texts.table) (both_lengths texts + length texts.table)) (makes_since before between now _ _ by.keeps writes))
-ends before between now model base read names (Err (stop.Unwritten output)) are by writes =
-    subst (λ (n : List ℕ). Ended (Some (Compile model base)) before now (ending.Unwritten n)) (sym (named base names output are))
+-- ---- the writing
+
+-- the texts that are written for what was compiled
+abbrev written : Compiled → Texts
+written made = texts_of (program_of made.system) made.columns made.names
+
+ends : (before between now : FolderState) (o n : SinkState) (model base : List ℕ) (made : Compiled) (names : OutputNames) (w : Result ⊤ OutputStop) → AreNamesOf base names → Compiles before between model (Ok made) → TakesPrinted o n made.printed →
+    WritesAll between now base (written made) w → Ended (Some (Compile model base)) before now o n (ending_of_writing names w)
+ends before between now o n model base made names (Ok x) are by takes writes =
+    run.done model base refl writes.1
+    (of_model before model made by.answers (λ (printed : List ℕ) (texts : Texts). TakesPrinted o n printed × outputs.Makes before now (with_table base texts texts.table) (both_lengths texts + length texts.table))
+    (takes, makes_since before between now _ _ (keeps before between by.only) writes.0))
+ends before between now o n model base made names (Err (stop.Unwritten output)) are by takes writes =
+    subst (λ (name : List ℕ). Ended (Some (Compile model base)) before now o n (ending.Unwritten name)) (sym (named base names output are))
     (run.unwritten model base output refl
-    (subst (λ (n : ℕ). Rose n now.write_faults) by.write_faults writes.1)
-    (of_files before between model read by (λ (texts : Texts). IsStoppedAt IsFrontOf before now base texts output) (stopped_since IsFrontOf before between now base (texts_of read) output by.keeps writes.0)))
-ends before between now model base read names (Err stop.Memory) are by (output, stopped) =
+    (subst (λ (count : ℕ). Rose count now.write_faults) by.only.write_faults writes.1)
+    (of_model before model made by.answers (λ (printed : List ℕ) (texts : Texts). TakesPrinted o n printed × IsStoppedAt IsFrontOf before now base texts output)
+    (takes, stopped_since IsFrontOf before between now base (written made) output (keeps before between by.only) writes.0)))
+ends before between now o n model base made names (Err stop.Memory) are by takes (output, stopped) =
     run.no_memory_to_begin model base output refl
-    (of_files before between model read by (λ (texts : Texts). IsStoppedAt IsEmptyFrontOf before now base texts output) (stopped_since IsEmptyFrontOf before between now base (texts_of read) output by.keeps stopped))
+    (of_model before model made by.answers (λ (printed : List ℕ) (texts : Texts). TakesPrinted o n printed × IsStoppedAt IsEmptyFrontOf before now base texts output)
+    (takes, stopped_since IsEmptyFrontOf before between now base (written made) output (keeps before between by.only) stopped))
 
 -- the writing was done, or stopped
-pub ended_by : (before between now : FolderState) (model base : List ℕ) (read : PlainModel) (names : OutputNames) (w : Result ⊤ OutputStop) (e : Ending) → e ≡ ending_of_writing names w → AreNamesOf base names → Made before between model read → WritesAll between now base (texts_of read) w → Ended (Some (Compile model base)) before now e
-ended_by before between now model base read names w e is are by writes =
-    subst (λ (x : Ending). Ended (Some (Compile model base)) before now x) (sym is) (ends before between now model base read names w are by writes)
+pub ended_by : (before between now : FolderState) (o n : SinkState) (model base : List ℕ) (made : Compiled) (names : OutputNames) (w : Result ⊤ OutputStop) (e : Ending) → e ≡ ending_of_writing names w → AreNamesOf base names →
+    Compiles before between model (Ok made) → TakesPrinted o n made.printed → WritesAll between now base (written made) w → Ended (Some (Compile model base)) before now o n e
+ended_by before between now o n model base made names w e is are by takes writes =
+    subst (λ (x : Ending). Ended (Some (Compile model base)) before now o n x) (sym is) (ends before between now o n model base made names w are by takes writes)
 
 -- the words are no job
-pub usage_by : {E : Type 0} (before : FolderState) (job : Option Job) (r : Result (Option Job) E) (o : Option Job) → r ≡ Ok o → o ≡ None → IfOk r (λ (read : Option Job). read ≡ job) →
-    Ended job before before ending.Usage
-usage_by {E} before job r o is none ok =
-    run.usage (sym (subst (λ (x : Result (Option Job) E). IfOk x (λ (read : Option Job). read ≡ job)) (is ∙ ap Ok none) ok)) refl
+pub usage_by : {E : Type 0} (before : FolderState) (o : SinkState) (job : Option Job) (r : Result (Option Job) E) (found : Option Job) → r ≡ Ok found → found ≡ None → IfOk r (λ (read : Option Job). read ≡ job) →
+    Ended job before before o o ending.Usage
+usage_by {E} before o job r found is none ok =
+    run.usage (sym (subst (λ (x : Result (Option Job) E). IfOk x (λ (read : Option Job). read ≡ job)) (is ∙ ap Ok none) ok)) refl refl
 
 -- memory was refused for the job
-pub job_refused : (before : FolderState) (job : Option Job) → Ended job before before ending.Memory
-job_refused before job = run.no_memory (record { held = refl; wrote = refl; faultless_below = refl })
+pub job_refused : (before : FolderState) (o : SinkState) (job : Option Job) → Ended job before before o o ending.Memory
+job_refused before o job = run.no_memory refl (record { held = refl; wrote = refl; faultless_below = refl })

@@ -5,20 +5,20 @@ use Rattle.std.specs.FinMap as map
 use Rattle.std.proofs.lemmas.List.{append-nil}
 use Rattle.zim_gate.proofs.AppendingLaws.{get_inserted, insert_again}
 use Rattle.zim_gate.specs.Counts.{Rose, count_on, IsFrontOf}
-use Rattle.zim_gate.specs.Folder.{FolderState, Files, Begins, Appends, StopsIn, Puts, Ends, put_to, appended_to, emptied}
+use Rattle.zim_gate.specs.Folder.{FolderState, HeldFiles, Begins, Appends, StopsIn, Puts, Ends, put_to, appended_to, emptied}
 use Rattle.zim_gate.specs.declared.stops.BeginStop.{BeginStop}
 use Rattle.zim_gate.specs.declared.stops.BeginStop.TheVariants as stop
 use Rattle.zim_gate.specs.declared.stops.Failed.{Failed}
 use Rattle.zim_cli.specs.WriteFile.{KeepsFiles, HoldsOnly, IsPartOf, WritesFile}
 
 -- to put bytes to a file that was just begun is to make it hold them
-put_to-emptied : (name bytes : List ℕ) (files : Files) → put_to (Some name) bytes (emptied name files) ≡ map.insert files name bytes
+put_to-emptied : (name bytes : List ℕ) (files : HeldFiles) → put_to (Some name) bytes (emptied name files) ≡ map.insert files name bytes
 put_to-emptied name bytes files =
     ap (appended_to name bytes (emptied name files)) (get_inserted files name [])
     ∙ insert_again files name [] bytes
 
-held-put : (name bytes : List ℕ) (held : Option Files) →
-    option_map (put_to (Some name) bytes) (option_map (emptied name) held) ≡ option_map (λ (files : Files). map.insert files name bytes) held
+held-put : (name bytes : List ℕ) (held : Option HeldFiles) →
+    option_map (put_to (Some name) bytes) (option_map (emptied name) held) ≡ option_map (λ (files : HeldFiles). map.insert files name bytes) held
 held-put name bytes None = refl
 held-put name bytes (Some files) = ap Some (put_to-emptied name bytes files)
 
@@ -28,7 +28,7 @@ holds-put before begun now name bytes begins appends = record {
   held =
       appends.held
       ∙ ap (λ (b : Option (List ℕ)). option_map (put_to b bytes) begun.held) begins.ok_begun
-      ∙ ap (λ (held : Option Files). option_map (put_to (Some name) bytes) held) begins.ok
+      ∙ ap (λ (held : Option HeldFiles). option_map (put_to (Some name) bytes) held) begins.ok
       ∙ held-put name bytes before.held;
   wrote = appends.wrote ∙ ap (option_map (count_on (length bytes))) begins.wrote;
   faultless_below = appends.faultless_below ∙ begins.faultless_below;
@@ -62,7 +62,7 @@ stopped_at_once before now name text (inr holds) = inr ([], no_bytes-front text,
 begin_stopped : (before now : FolderState) (name text : List ℕ) (s : BeginStop) → Begins before now name (Err s) → WritesFile before now name text (Err s)
 begin_stopped before now name text s begins =
     let left : KeepsFiles before now ⊎ HoldsOnly before now name [] = begun_or_kept before now name begins.wrote begins.faultless_below begins.err in
-    record { ok = tt; err = stopped_at_once before now name text left; failed = begins.failed; refused = λ _. left; write_faults = begins.write_faults }
+    record { ok = tt; ended = tt; err = stopped_at_once before now name text left; failed = begins.failed; refused = λ _. left; write_faults = begins.write_faults }
 
 -- the begin was refused
 pub begin_failed : (before now : FolderState) (name text : List ℕ) (b : Result ⊤ BeginStop) (s : BeginStop) → b ≡ Err s → Begins before now name b → WritesFile before now name text (Err s)
@@ -89,6 +89,7 @@ put_stopped : (before begun now : FolderState) (name text : List ℕ) → Begins
     WritesFile before now name text (Err stop.Failed)
 put_stopped before begun now name text begins stops = record {
   ok = tt;
+  ended = tt;
   err = inr (stops.bytes, stops.front, holds-put before begun now name stops.bytes begins stops.appends);
   failed = λ _. Rose-from before.write_faults begun.write_faults now.write_faults begins.write_faults stops.rose;
   refused = λ h. absurd (failed-no_memory h);
@@ -110,6 +111,7 @@ end_stopped : (before begun put now : FolderState) (name text : List ℕ) (f : F
     Ends put now (Err f) → WritesFile before now name text (Err stop.Failed)
 end_stopped before begun put now name text f begins appends ends = record {
   ok = tt;
+  ended = tt;
   err = inr (text, whole-front text, holds-end before put now name text (Err f) (holds-put before begun put name text begins appends) ends);
   failed = λ _.
       Rose-from before.write_faults put.write_faults now.write_faults
@@ -132,6 +134,7 @@ ended_well : (before begun put now : FolderState) (name text : List ℕ) (e : Re
     Ends put now e → WritesFile before now name text (Ok tt)
 ended_well before begun put now name text e begins appends ends = record {
   ok = holds-end before put now name text e (holds-put before begun put name text begins appends) ends;
+  ended = ends.begun;
   err = tt;
   failed = λ h. absurd (well-no_err tt stop.Failed h);
   refused = λ h. absurd (well-no_err tt stop.Memory h);
@@ -153,6 +156,7 @@ file_cleared before begun now name b e well begins ends =
     let at : Begins before begun name (Ok tt) = subst (λ (r : Result ⊤ BeginStop). Begins before begun name r) well begins in
     record {
       ok = holds-end before begun now name [] e (holds-nothing before begun name at.ok at.wrote at.faultless_below) ends;
+      ended = ends.begun;
       err = tt;
       failed = λ h. absurd (well-no_err tt stop.Failed h);
       refused = λ h. absurd (well-no_err tt stop.Memory h);
@@ -166,6 +170,7 @@ clear_failed before begun now name b e f well bad begins ends =
     let rose : Rose begun.write_faults now.write_faults = (subst (λ (r : Result ⊤ Failed). Ends begun now r) bad ends).failed in
     record {
       ok = tt;
+      ended = tt;
       err = inr ([], whole-front [], holds-end before begun now name [] e (holds-nothing before begun name at.ok at.wrote at.faultless_below) ends);
       failed = λ _. Rose-from before.write_faults begun.write_faults now.write_faults begins.write_faults rose;
       refused = λ h. absurd (failed-no_memory h);

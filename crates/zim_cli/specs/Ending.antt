@@ -3,7 +3,7 @@ use Rattle.std.specs.Prelude.{ℕ, ◌<◌, ◌⊎◌, List, [], ◌++◌, lengt
 use Rattle.zim_gate.specs.FaultLine.{fault_text}
 use Rattle.zim_gate.specs.Sink.{SinkState, SinkAppends, SinkStopsIn}
 use Rattle.zim_cli.specs.declared.ending.Ending.{Ending}
-use Rattle.zim_cli.specs.declared.ending.Ending.TheVariants.{Done, Usage, Refused, Unread, Unwritten, Memory}
+use Rattle.zim_cli.specs.declared.ending.Ending.TheVariants.{Done, Usage, Refused, Unread, Unwritten, Unput, Memory}
 use Rattle.zim_cli.specs.declared.outputs.OutputNames.{OutputNames}
 use Rattle.zim_cli.specs.declared.outputs.OutputStop.{OutputStop}
 use Rattle.zim_cli.specs.declared.outputs.OutputStop.TheVariants as stop
@@ -23,16 +23,18 @@ status_of Usage = status.Usage
 status_of (Refused fault files) = status.Refused
 status_of (Unread name) = status.ReadFault
 status_of (Unwritten name) = status.WriteFault
+status_of Unput = status.OutFault
 status_of Memory = status.Memory
 
 -- The line that a run has for the error stream; none where it is done.
-abbrev pub line_of : Ending → List ℕ
-line_of Done = []
-line_of Usage = codes "usage: zimplc MODEL --out BASE\n"
-line_of (Refused fault files) = fault_text files fault
-line_of (Unread name) = codes "zimplc: cannot read " ++ (name ++ codes "\n")
-line_of (Unwritten name) = codes "zimplc: cannot write " ++ (name ++ codes "\n")
-line_of Memory = codes "zimplc: out of memory\n"
+abbrev pub ending_line : Ending → List ℕ
+ending_line Done = []
+ending_line Usage = codes "usage: zimplc MODEL --out BASE\n"
+ending_line (Refused fault files) = fault_text files fault
+ending_line (Unread name) = codes "zimplc: cannot read " ++ (name ++ codes "\n")
+ending_line (Unwritten name) = codes "zimplc: cannot write " ++ (name ++ codes "\n")
+ending_line Unput = codes "zimplc: cannot write output\n"
+ending_line Memory = codes "zimplc: out of memory\n"
 
 -- A sink took the line, or a first part of it where its count rose.
 abbrev pub TakesLine : SinkState → SinkState → List ℕ → Type 0

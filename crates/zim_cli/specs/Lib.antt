@@ -1,13 +1,9 @@
-pub mod PlainTexts
+pub mod Printing
 pub mod Job
 pub mod Status
-pub mod Reading
 pub mod FilesOf
 pub mod WriteFile
 pub mod Outputs
 pub mod Ending
-pub mod Parsed
-pub mod Lexed
-pub mod Compile
 pub mod Run
 pub mod Headline

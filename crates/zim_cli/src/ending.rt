@@ -1,5 +1,5 @@
 ghost use Rattle.std.specs.Prelude.{◌≡◌, ◌++◌, codes};
-ghost use Rattle.zim_cli.specs.Ending.{IsReportable, status_of, line_of, TakesLine};
+ghost use Rattle.zim_cli.specs.Ending.{IsReportable, status_of, ending_line, TakesLine};
 ghost use Rattle.zim_gate.specs.Sink.{SinkPuts};
 
 use crate::status::Status;
@@ -19,6 +19,8 @@ pub enum Ending {
     Unread(Bytes),
     /// The named file could not be written.
     Unwritten(Bytes),
+    /// What the model prints could not be put.
+    Unput,
     /// Memory was refused.
     Memory,
 }
@@ -37,7 +39,7 @@ fn put_named<E: Sink>(err: &mut E, text: &[u8], name: &[u8]) -> Result<(), Faile
 /// Puts the line of an ending, which is nothing where the run is done.
 fn put_line<E: Sink>(ending: &Ending, err: &mut E) -> Result<(), Failed>
     requires { IsReportable ending.now }
-    ensures { SinkPuts (E.state err.old) (E.state err.new) (line_of ending.now) result }
+    ensures { SinkPuts (E.state err.old) (E.state err.new) (ending_line ending.now) result }
 {
     match ending {
         Ending::Done => err.put(b""),
@@ -45,6 +47,7 @@ fn put_line<E: Sink>(ending: &Ending, err: &mut E) -> Result<(), Failed>
         Ending::Refused(fault, files) => fault_line(fault, files, err),
         Ending::Unread(name) => put_named(err, b"zimplc: cannot read ", name.as_slice()),
         Ending::Unwritten(name) => put_named(err, b"zimplc: cannot write ", name.as_slice()),
+        Ending::Unput => err.put(b"zimplc: cannot write output\n"),
         Ending::Memory => err.put(b"zimplc: out of memory\n"),
     }
 }
@@ -59,6 +62,7 @@ fn status(ending: &Ending) -> Status
         Ending::Refused(_, _) => Status::Refused,
         Ending::Unread(_) => Status::ReadFault,
         Ending::Unwritten(_) => Status::WriteFault,
+        Ending::Unput => Status::OutFault,
         Ending::Memory => Status::Memory,
     }
 }
@@ -68,7 +72,7 @@ fn status(ending: &Ending) -> Status
 pub fn report<E: Sink>(ending: &Ending, err: &mut E) -> Status
     requires { IsReportable ending.now }
     ensures status { result ≡ status_of ending.now }
-    ensures line { TakesLine (E.state err.old) (E.state err.new) (line_of ending.now) }
+    ensures line { TakesLine (E.state err.old) (E.state err.new) (ending_line ending.now) }
 {
     let _ = put_line(ending, err);
     status(ending)

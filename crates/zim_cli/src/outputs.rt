@@ -1,13 +1,14 @@
 ghost use Rattle.std.specs.Prelude.{◌≡◌, ℕ, List, IfOk};
-ghost use Rattle.zim_cli.specs.Outputs.{AreNamesOf, output_name, WritesAll, names_of_statements, texts_of, ending_text, stop_at_output};
+ghost use Rattle.zim_cli.specs.Outputs.{AreNamesOf, output_name, WritesAll, texts_of, ending_text, stop_at_output};
 ghost use Rattle.zim_rows.specs.Finished.{program_of};
 ghost use Rattle.zim_table.specs.Correct.{CanBeListed};
 
 use crate::write_file::{clear_file, write_lp_file, write_mps_file, write_table_file};
 use std::alloc::Global;
+use zim_columns::Columns;
 use zim_fault::{Bytes, Memory};
 use zim_gate::{BeginStop, Folder};
-use zim_plain::PlainModel;
+use zim_rows::Finished;
 use zim_table::Names;
 
 /// One of the files that a compilation writes.
@@ -79,32 +80,25 @@ fn stop_of(output: Output, stop: BeginStop) -> OutputStop
 pub fn write_files<F: Folder>(
     folder: &mut F,
     names: &OutputNames,
-    read: PlainModel,
+    system: &Finished,
+    columns: &Columns,
+    statements: &Names,
 ) -> Result<(), OutputStop>
-    requires { CanBeListed (program_of read.system) read.variables (names_of_statements read) }
-    ensures { (base : List ℕ) → AreNamesOf base names.now → WritesAll (F.state folder.old) (F.state folder.new) base (texts_of read) result }
+    requires { CanBeListed (program_of system.now) columns.now statements.now }
+    ensures { (base : List ℕ) → AreNamesOf base names.now →
+        WritesAll (F.state folder.old) (F.state folder.new) base (texts_of (program_of system.now) columns.now statements.now) result }
 {
-    let PlainModel {
-        system,
-        variables,
-        statements,
-        objective,
-    } = read;
-    let statements = Names {
-        statements,
-        objective,
-    };
     if let Err(stop) = clear_file(folder, names.table.as_slice()) {
         return Err(stop_of(Output::Table, stop));
     }
-    if let Err(stop) = write_lp_file(folder, names.lp.as_slice(), &system) {
+    if let Err(stop) = write_lp_file(folder, names.lp.as_slice(), system) {
         return Err(stop_of(Output::Lp, stop));
     }
-    if let Err(stop) = write_mps_file(folder, names.mps.as_slice(), &system) {
+    if let Err(stop) = write_mps_file(folder, names.mps.as_slice(), system) {
         return Err(stop_of(Output::Mps, stop));
     }
     let table = names.table.as_slice();
-    if let Err(stop) = write_table_file(folder, table, &system, variables.as_slice(), &statements) {
+    if let Err(stop) = write_table_file(folder, table, system, columns, statements) {
         return Err(stop_of(Output::Table, stop));
     }
     Ok(())

@@ -14,6 +14,8 @@ pub enum Status {
     ReadFault,
     /// A file could not be written.
     WriteFault,
+    /// What the model prints could not be put.
+    OutFault,
     /// Memory was refused.
     Memory,
 }
@@ -28,6 +30,7 @@ pub fn exit_number(status: Status) -> u8
         Status::Refused => 2,
         Status::ReadFault => 3,
         Status::WriteFault => 4,
+        Status::OutFault => 5,
         Status::Memory => 6,
     }
 }

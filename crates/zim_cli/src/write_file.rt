@@ -6,7 +6,7 @@ ghost use Rattle.zim_mps.specs.Text.{mps_text};
 ghost use Rattle.zim_table.specs.Text.{table_text};
 ghost use Rattle.zim_table.specs.Correct.{CanBeListed};
 
-use zim_fault::Bytes;
+use zim_columns::Columns;
 use zim_gate::{BeginStop, Folder};
 use zim_rows::Finished;
 use zim_table::Names;
@@ -72,23 +72,23 @@ pub fn write_mps_file<F: Folder>(
     }
 }
 
-/// Writes the table of a system to the named file, with the names of its variables and of the statements. What is said of
+/// Writes the table of a system to the named file, with its declared columns and the names of the statements. What is said of
 /// `write_lp_file` is so of it too.
 pub fn write_table_file<F: Folder>(
     folder: &mut F,
     name: &[u8],
     system: &Finished,
-    variables: &[Bytes],
+    columns: &Columns,
     names: &Names,
 ) -> Result<(), BeginStop>
-    requires { CanBeListed (program_of system.now) variables.now names.now }
-    ensures { WritesFile (F.state folder.old) (F.state folder.new) name.now (table_text (program_of system.now) variables.now names.now) result }
+    requires { CanBeListed (program_of system.now) columns.now names.now }
+    ensures { WritesFile (F.state folder.old) (F.state folder.new) name.now (table_text (program_of system.now) columns.now names.now) result }
 {
     match folder.begin(name) {
         Ok(()) => {}
         Err(stop) => return Err(stop),
     }
-    if zim_table::write(system, variables, names, folder).is_err() {
+    if zim_table::write(system, columns, names, folder).is_err() {
         return Err(BeginStop::Failed);
     }
     match folder.end() {
