@@ -6,3 +6,5 @@ mod OperandLemmas
 mod FirstLemmas
 mod FaultLoopLemmas
 mod IndexLemmas
+mod CallsLemmas
+mod DeepLemmas

@@ -5,7 +5,7 @@ use Rattle.zim_fault.specs.declared.words.Word.{Word}
 use Rattle.zim_tree.specs.declared.expr.Expr.{Expr, Expr-F, fold-Expr}
 use Rattle.zim_tree.specs.declared.expr.Angle.{Angle, Angle-F, fold-Angle}
 use Rattle.zim_tree.specs.declared.expr.Index.{Index, Index-F, fold-Index}
-use Rattle.zim_tree.specs.declared.expr.Body.{Body-F}
+use Rattle.zim_tree.specs.declared.expr.Body.{Body, Body-F, fold-Body}
 use Rattle.zim_tree.specs.declared.stmt.Stmt.{Stmt}
 use Rattle.zim_tree.specs.declared.stmt.Shape.{Shape}
 use Rattle.zim_tree.specs.declared.stmt.Shape.TheVariants.{Set, Param, Var, Goal, Subto, Define, Do}
@@ -18,7 +18,7 @@ use Rattle.zim_tree.specs.declared.stmt.ParSide.TheVariants as par_side
 use Rattle.zim_tree.specs.declared.stmt.Table.{Table}
 use Rattle.zim_tree.specs.declared.stmt.Limit.{Limit}
 use Rattle.zim_tree.specs.declared.stmt.Reading.{Reading}
-use Rattle.zim_tree.specs.declared.stmt.Doing.{Doing-F, fold-Doing}
+use Rattle.zim_tree.specs.declared.stmt.Doing.{Doing, Doing-F, fold-Doing}
 use Rattle.zim_tree.specs.declared.stmt.Printed.{Printed}
 use Rattle.zim_tree.specs.declared.stmt.Printed.TheVariants.{Value, Tuple}
 use Rattle.zim_nesting.specs.Depth.{nesting}
@@ -85,6 +85,10 @@ tuple_calls scope = fold-Angle ℕ ℕ ℕ ℕ calls_in_body (calls_in_expr scop
 abbrev pub index_calls : Scope → Index → ℕ
 index_calls scope = fold-Index ℕ ℕ ℕ ℕ calls_in_body (calls_in_expr scope) calls_in_angle calls_in_index
 
+-- of those that what stands in braces calls
+abbrev pub body_calls : Scope → Body → ℕ
+body_calls scope = fold-Body ℕ ℕ ℕ ℕ calls_in_body (calls_in_expr scope) calls_in_angle calls_in_index
+
 -- of those that expressions call
 abbrev pub all_calls : Scope → List Expr → ℕ
 all_calls scope items = greatest (map (calls scope) items)
@@ -138,6 +142,10 @@ calls_in_doing scope (Doing-F.Print place items) = greatest (map (printed_calls 
 calls_in_doing scope (Doing-F.Check place test) = calls scope test
 calls_in_doing scope (Doing-F.Forall place index with_do inside) = max (index_calls scope index) inside
 
+-- of those that a `do` calls
+abbrev pub doing_calls : Scope → Doing → ℕ
+doing_calls scope = fold-Doing ℕ (calls_in_doing scope)
+
 -- of those that what stands behind a statement's name calls
 abbrev pub shape_calls : Scope → Shape → ℕ
 shape_calls scope (Set brackets side) = max (brackets_calls scope brackets) (set_calls scope side)
@@ -147,7 +155,7 @@ shape_calls scope (Var brackets kind limits priority startval) =
 shape_calls scope (Goal maximize objective) = calls scope objective
 shape_calls scope (Subto constraint) = calls scope constraint
 shape_calls scope (Define result parameters body) = calls scope body
-shape_calls scope (Do doing) = fold-Doing ℕ (calls_in_doing scope) doing
+shape_calls scope (Do doing) = doing_calls scope doing
 
 -- the full nesting of a statement: its own, and the greatest full nesting of the functions that it calls
 abbrev pub full_nesting : Scope → Stmt → ℕ

@@ -1,12 +1,14 @@
 //! What names are, and the first static fault of a statement, which is what is wrong with it whatever its values are.
 //!
-//! [`Scope`] keeps what each name is behind some statements, and finds it by the name's hash. `specs/StatementFaults` says which
-//! fault a statement has first under a scope, and `specs/Calls` how deep it nests with the functions that it calls. The modules
-//! find the first fault of an expression in a role, and from it that of a statement, in one walk that takes no memory. The call
-//! that puts the nesting before it and makes the typed tree isn't here yet.
+//! [`Scope`] keeps what each name is behind some statements, and finds it by the name's hash. [`static_fault`] gives the static
+//! fault of a statement under a scope, in a few walks along its tree that take no memory: how deep it nests with the functions
+//! that it calls (`specs/Calls`), and the first fault in the order of its tokens (`specs/StatementFaults`). The calls that add a
+//! statement's name to a scope and make its typed tree aren't here yet.
 #![tactic(auto)]
 
 mod around;
+mod calls;
+mod deep;
 mod fault_in;
 mod marks;
 mod operators;
@@ -17,3 +19,4 @@ mod uses;
 mod varies;
 
 pub use scope::Scope;
+pub use statements::static_fault;

@@ -6,6 +6,7 @@ ghost use Rattle.zim_sort.specs.Faults.{first_of_faults};
 ghost use Rattle.zim_sort.specs.StatementFaults as spec;
 
 use crate::around::Around;
+use crate::deep::is_deep;
 use crate::fault_in::{fault_in, fault_in_index, fault_in_items};
 use crate::role::Role;
 use crate::scope::Scope;
@@ -294,7 +295,7 @@ fn is_declared_again(scope: &Scope, name: &Bytes, shape: &Shape) -> bool
 
 /// The first fault in a statement under the scope of the statements before it, of those in the order of its tokens. Its nesting
 /// isn't looked at.
-pub(crate) fn statement_fault(scope: &Scope, stmt: &Stmt) -> Option<Fault>
+fn statement_fault(scope: &Scope, stmt: &Stmt) -> Option<Fault>
     ensures { result ≡ first_of_faults (spec.statement_faults scope.now stmt.now) }
 {
     mark(
@@ -303,4 +304,25 @@ pub(crate) fn statement_fault(scope: &Scope, stmt: &Stmt) -> Option<Fault>
         stmt.at,
     )
     .or(shape_fault(scope, stmt.shape.get()))
+}
+
+/// The static fault of a statement under the scope of the statements before it, which is what is wrong with it whatever its
+/// values are. None exactly where there is none.
+///
+/// `Deep`, at the first token, where the statement nests deeper than 200 together with the functions that it calls. Else the
+/// first fault in it, in the order of its tokens, and at one token the kind with the lower number: `infinity` outside of the
+/// bounds of a variable is `Unsupported`, a name that isn't declared `UnknownName`, one that is declared again, or a second
+/// objective, `Redeclared`, a name with other brackets or another number of arguments than its declaration `ArgCount`, a
+/// variable outside of a term `VariableHere`, a product, quotient or power of variables that is no linear term `NotLinear`,
+/// and what is no constraint where one is wanted `NotConstraint`.
+pub fn static_fault(scope: &Scope, stmt: &Stmt) -> Option<Fault>
+    ensures { result ≡ spec.static_fault scope.now stmt.now }
+{
+    if is_deep(scope, stmt) {
+        return Some(Fault {
+            place: stmt.first,
+            kind: Kind::Deep,
+        });
+    }
+    statement_fault(scope, stmt)
 }
