@@ -1,12 +1,11 @@
 -- A comparison of two numbers, by the least whole multiple of their difference.
-use Rattle.std.proofs.Common.{◌≡◌, ◌≢◌, Bool, true, false, not, IsTrue, inl, inr, refl, ap, ap₂, sym, ◌∙◌, subst, subst₂}
+use Rattle.std.proofs.Common.{◌≡◌, Bool, true, false, not, IsTrue, inl, inr, refl, ap, sym, ◌∙◌, subst, subst₂}
 use Rattle.std.proofs.lemmas.Bool.{cases_Bool}
-use Rattle.zim_rational.specs.Rational.{Rational, zero, one, plus, minus, times, at_most, below, same, is_whole, IsAtMost, IsBelow}
+use Rattle.zim_rational.specs.Rational.{Rational, zero, one, minus, times, at_most, below, is_whole, IsAtMost, IsBelow}
 use Rattle.zim_rational.proofs.Order.{at_most_refl, at_most_trans, at_most_antisymm, at_most_below, below_at_most, below_different, different_below, at_most_zero-one, at_most_minus, minus_at_most, at_most_times, times_at_most, plus_at_most}
 use Rattle.zim_rational.proofs.Ring.{times_zero, minus_self, minus_plus, zero_plus}
 use Rattle.zim_rational.proofs.Rows.{whole_gap}
 use Rattle.zim_rational.proofs.Whole.{one_different, whole_is_whole}
-use Rattle.zim_logic_rows.proofs.AbsoluteLaws.{whole_zero}
 
 -- two tests that follow from each other
 pub one_test : (b c : Bool) → (IsTrue b → IsTrue c) → (IsTrue c → IsTrue b) → b ≡ c

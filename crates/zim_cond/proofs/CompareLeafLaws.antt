@@ -1,7 +1,6 @@
 -- A comparison of two terms by `>=`, `>`, `<` or `<=` is its literal.
-use Rattle.std.proofs.Common.{ℕ, pos, ◌≡◌, ◌<◌, Bool, true, false, not, IsTrue, List, length, Result, Ok, arith, ap, ap₂, sym, ◌∙◌, subst}
+use Rattle.std.proofs.Common.{ℕ, pos, ◌≡◌, ◌<◌, true, IsTrue, List, length, Ok, arith, ap, ap₂, sym, ◌∙◌, subst}
 use Rattle.std.proofs.lemmas.Int.{ints}
-use Rattle.zim_answer.specs.Answer.{◌>>=◌}
 use Rattle.zim_answer.proofs.BindLemmas.{bind_gave}
 use Rattle.zim_fault.specs.declared.faults.Place.{Place}
 use Rattle.zim_rational.specs.Rational.{Rational, zero, one, whole, minus, times, at_most, below, is_whole, IsBelow}
@@ -13,7 +12,7 @@ use Rattle.zim_linear.proofs.WholeEndLaws.{multiple_some}
 use Rattle.zim_formula.specs.Ground.{term_number}
 use Rattle.zim_formula.specs.GroundRules.{is_term_over}
 use Rattle.zim_formula.specs.declared.ground.GTerm.{GTerm}
-use Rattle.zim_forms.specs.Algebra.{◌⊖◌, ◌⊙◌, form_sum}
+use Rattle.zim_forms.specs.Algebra.{◌⊖◌, form_sum}
 use Rattle.zim_forms.proofs.AlgebraLaws.{number_difference, number_multiple}
 use Rattle.zim_forms.proofs.MultipleLaws.{sum_is}
 use Rattle.zim_forms.proofs.OverLaws.{IsOver, over_difference}
@@ -22,7 +21,6 @@ use Rattle.zim_rows.specs.System.{LinearSystem, Extends}
 use Rattle.zim_rows.specs.Points.{IsSystemPoint, assigned, first_numbers}
 use Rattle.zim_rows.specs.Extending.{IsValid}
 use Rattle.zim_rows.proofs.ExtendLaws.{extends_further}
-use Rattle.zim_logic_rows.specs.declared.Literal.{Literal}
 use Rattle.zim_logic_rows.specs.declared.Ranged.{Ranged}
 use Rattle.zim_logic_rows.specs.LogicRows.{past_at}
 use Rattle.zim_logic_rows.specs.Literals.{literal}
@@ -36,7 +34,7 @@ use Rattle.zim_vabs.proofs.TermLaws.{term_told, stays_made}
 use Rattle.zim_cond.specs.Conditions.{difference_of}
 use Rattle.zim_cond.specs.Meaning.{LiteralMade}
 use Rattle.zim_cond.proofs.CompareLaws.{difference_least, difference_one, one_whole}
-use Rattle.zim_cond.proofs.LiteralLaws.{truth_makes, negated_made}
+use Rattle.zim_cond.proofs.LiteralLaws.{truth_makes}
 
 -- the difference of two terms is a form that is the difference of their numbers
 pub difference_made : (base before : LinearSystem) (statement : ℕ) (place : Place) (left right : GTerm) (form : LinearForm) (after : LinearSystem) → IsValid before → Extends before base

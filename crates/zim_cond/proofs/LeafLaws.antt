@@ -1,25 +1,16 @@
 -- The leaves of a condition: known truth values, and comparisons of two terms.
-use Rattle.std.proofs.Common.{ℕ, pos, ◌≡◌, ◌≤◌, ◌<◌, Bool, true, false, not, IsTrue, IsFalse, List, length, Result, Ok, arith, refl, ap, sym, ◌∙◌, subst}
-use Rattle.std.specs.Int.{◌∣◌}
-use Rattle.std.proofs.lemmas.Int.{ints}
-use Rattle.std.proofs.lemmas.Bool.{and_parts, false_from_ne_true}
-use Rattle.zim_answer.specs.Answer.{◌>>=◌}
+use Rattle.std.proofs.Common.{ℕ, ◌≡◌, Bool, true, false, IsTrue, List, length, Ok, ap, sym, ◌∙◌, subst}
+use Rattle.std.proofs.lemmas.Bool.{false_from_ne_true}
 use Rattle.zim_answer.proofs.BindLemmas.{bind_gave}
-use Rattle.zim_fault.specs.declared.faults.Place.{Place}
-use Rattle.zim_fault.specs.declared.tokens.Relation.{Relation}
-use Rattle.zim_fault.specs.declared.tokens.Relation.TheVariants.{LessThan, AtMost, EqualTo, NotEqualTo, AtLeast, GreaterThan}
-use Rattle.zim_rational.specs.Rational.{Rational, zero, one, minus, times, at_most, is_whole, IsAtMost}
+use Rattle.zim_rational.specs.Rational.{Rational, zero, one, at_most, is_whole, IsAtMost}
 use Rattle.zim_rational.proofs.Order.{at_most_refl, at_most_zero-one, at_most_antisymm}
-use Rattle.zim_rational.proofs.Whole.{one_different, whole_is_whole}
-use Rattle.zim_linear.specs.Forms.{LinearForm, number_at}
-use Rattle.zim_forms.specs.Algebra.{known}
+use Rattle.zim_rational.proofs.Whole.{one_different}
 use Rattle.zim_forms.proofs.AlgebraLaws.{number_known}
 use Rattle.zim_forms.proofs.OverLaws.{over_known}
 use Rattle.zim_rows.specs.declared.rows.RowFrom.{RowFrom}
-use Rattle.zim_rows.specs.System.{LinearSystem, Extends}
-use Rattle.zim_rows.specs.Points.{IsSystemPoint, assigned, first_numbers}
+use Rattle.zim_rows.specs.System.{LinearSystem}
+use Rattle.zim_rows.specs.Points.{assigned}
 use Rattle.zim_rows.specs.Steps.{◌then◌, gives}
-use Rattle.zim_rows.specs.Extending.{IsValid}
 use Rattle.zim_logic_rows.specs.declared.Literal.{Literal}
 use Rattle.zim_logic_rows.specs.Literals.{literal}
 use Rattle.zim_logic_rows.specs.Truth.{truth_column, nought}

@@ -3,3 +3,10 @@ pub mod ConditionLaws
 pub mod CompareLaws
 pub mod LeafLaws
 pub mod CompareLeafLaws
+pub mod EqualLeafLaws
+pub mod RelationLeafLaws
+pub mod ColumnCallLemmas
+pub mod CompareCallLemmas
+pub mod ConditionCallLemmas
+pub mod ConditionWeightLemmas
+pub mod OverConditionLaws

@@ -1,11 +1,10 @@
 -- Steps of one binary column as literals: truth columns, joins and negations.
-use Rattle.std.proofs.Common.{ℕ, ◌≡◌, ◌<◌, ◌≤◌, ◌+◌, ◌-◌, ◌↔◌, Bool, true, false, not, cond, IsTrue, List, [], ◌∷◌, ◌++◌, length, length-append, take, map, get_or, Result, Ok, Err, All, arith, refl, ap, ap₂, sym, ◌∙◌, subst}
-use Rattle.std.proofs.lemmas.List.{get_or-take, get_or_push, get_or_append_left, get_or-append_right}
+use Rattle.std.proofs.Common.{ℕ, ◌≡◌, ◌<◌, ◌≤◌, ◌+◌, ◌-◌, ◌↔◌, Bool, true, false, not, IsTrue, List, [], ◌∷◌, ◌++◌, length, length-append, take, map, Ok, All, arith, refl, ap, ap₂, sym, ◌∙◌, subst}
+use Rattle.std.proofs.lemmas.List.{get_or-take, get_or_push}
 use Rattle.std.proofs.lemmas.List.Elements.{All-cons, All-nil}
 use Rattle.zim_answer.specs.Answer.{◌>>=◌}
 use Rattle.zim_answer.proofs.BindLemmas.{bind_gave}
 use Rattle.zim_fault.specs.declared.faults.Place.{Place}
-use Rattle.zim_fault.specs.declared.faults.Fault.{Fault}
 use Rattle.zim_fault.specs.declared.tokens.Join.{Join}
 use Rattle.zim_fault.specs.declared.tokens.Join.TheVariants.{And, Or, Xor}
 use Rattle.zim_rational.specs.Rational.{Rational, zero, one, plus, minus, negate, at_most, is_whole, IsBinary}
@@ -22,12 +21,10 @@ use Rattle.zim_rows.specs.declared.rows.RowFrom.{RowFrom}
 use Rattle.zim_rows.specs.declared.rows.Sense.TheVariants as sense
 use Rattle.zim_rows.specs.System.{LinearSystem, IsColumn, IsGivenRow, Extends, column_of, column_at}
 use Rattle.zim_rows.specs.Points.{IsSystemPoint, KeepConstraints, assigned, given_constraint, first_numbers}
-use Rattle.zim_rows.specs.Covered.{IsCovered}
-use Rattle.zim_rows.specs.Steps.{Step, Encoding, with_step, step_placed, binary, ◌then◌, gives}
-use Rattle.zim_rows.specs.Extending.{IsValid, Widens, HasShortSides}
+use Rattle.zim_rows.specs.Steps.{with_step, step_placed, binary}
+use Rattle.zim_rows.specs.Extending.{IsValid, HasShortSides}
 use Rattle.zim_rows.proofs.StepLaws.{each_has_number, placed_is}
 use Rattle.zim_rows.proofs.CutLaws.{point_cut}
-use Rattle.zim_rows.proofs.ExtendLaws.{extends_further}
 use Rattle.zim_rows.proofs.ExtendingLaws.{cut_twice, widens_further}
 use Rattle.zim_rows.proofs.CoveredStepLaws.{short_further}
 use Rattle.zim_logic_rows.specs.declared.Literal.{Literal}
@@ -37,11 +34,12 @@ use Rattle.zim_logic_rows.specs.Truth.{truth_step, truth_column}
 use Rattle.zim_logic_rows.proofs.TruthLaws.{RangesAt, truth_of, truth_gave, truth_kept}
 use Rattle.zim_vabs.proofs.RangedLaws.{past_gave}
 use Rattle.zim_logic_rows.specs.Literals.{number_of, literal_form, is, literal, negation, join_rows, joined_column}
-use Rattle.zim_logic_rows.proofs.BinaryLaws.{binary_step, binary_gave, binary_tells}
+use Rattle.zim_logic_rows.proofs.BinaryLaws.{binary_step, binary_tells}
 use Rattle.zim_logic_rows.proofs.JoinLaws.{join_kept}
 use Rattle.zim_logic_rows.proofs.ValidLaws.{step_valid, row_is}
+use Rattle.zim_vabs.proofs.TermLaws.{columns_after}
 use Rattle.zim_vabs.proofs.AbsoluteFormLaws.{binary_is, binary_short, pair_parts}
-use Rattle.zim_cond.specs.Meaning.{LiteralMade, MakesLiteral}
+use Rattle.zim_cond.specs.Meaning.{LiteralMade}
 
 -- ---- the number of a literal at a point
 
@@ -65,10 +63,14 @@ kept_form n q b false some few =
 pub kept_literal : (n : ℕ) (q : List Rational) (l : Literal) → 0 < l.column → l.column ≤ n → literal_at (take n q) l ≡ literal_at q l
 kept_literal n q l some few = kept_form n q l.column l.positive some few
 
+-- a new column is one from 1
+pub from_one : (base before after : LinearSystem) (truth : List Rational → Bool) (l : Literal) → LiteralMade base before truth l after → 0 < l.column
+from_one base before after truth l made = let lt : length before.columns < l.column = made.is_new in omega arith
+
 -- what was told at an earlier system stays told
 pub stays : (base before middle after : LinearSystem) (truth : List Rational → Bool) (l : Literal) → LiteralMade base before truth l middle → Extends middle base → Extends after middle → (q : List Rational) → IsSystemPoint after q → literal_at q l ≡ number_of (truth (first_numbers base q))
 stays base before middle after truth l made under more q point =
-    sym (kept_literal (length middle.columns) q l made.from_one made.in_columns)
+    sym (kept_literal (length middle.columns) q l (from_one base before middle truth l made) made.in_columns)
     ∙ made.tells (first_numbers middle q) (point_cut after middle q made.valid more point)
     ∙ ap (λ p. number_of (truth p)) (cut_twice middle base q under)
 
@@ -87,7 +89,7 @@ column_made base before truth place rows after is over each h says =
     record {
       valid = step_valid place before (binary_step rows) after is (All-cons IsColumn binary [] binary_is (All-nil IsColumn)) each h;
       widens = told.0;
-      from_one = let lt : 0 < n + 1 = omega arith in lt;
+      is_new = let lt : n < n + 1 = omega arith in lt;
       in_columns = omega arith;
       is_binary = last_column before.columns;
       tells = λ q point. number_the (assigned q) (next_number before) ∙ told.1 q point ∙ ap (λ (v : List Rational). number_of (truth v)) (cut_twice before base q over);
@@ -100,11 +102,25 @@ first_joined : (n : ℕ) (p vs : List Rational) → length p ≡ n → take n (p
 first_joined n [] vs e = rw (sym e) refl
 first_joined n (v ∷ p) vs e = rw (sym e) (ap (λ (r : List Rational). v ∷ r) (first_joined (length p) p vs refl))
 
-form_over : (n b : ℕ) (flag : Bool) → 0 < b → b ≤ n → IsOver n (literal_form b flag)
+-- a literal at a point with a further number is what was told at the point
+pub told_before : (base before : LinearSystem) (truth : List Rational → Bool) (l : Literal) (v : List Rational) (w : Rational) → IsSystemPoint before v → 0 < l.column → l.column ≤ length before.columns
+    → ((u : List Rational) → IsSystemPoint before u → literal_at u l ≡ number_of (truth (first_numbers base u))) → literal_at (v ++ w ∷ []) l ≡ number_of (truth (first_numbers base v))
+told_before base before truth l v w point some few tells =
+    sym (kept_literal (length before.columns) (v ++ w ∷ []) l some few)
+    ∙ ap (λ (u : List Rational). literal_at u l) (first_joined (length before.columns) v (w ∷ []) (each_has_number before.columns v point.columns))
+    ∙ tells v point
+
+-- the next column at such a point is that number
+pub next_is : (before : LinearSystem) (v : List Rational) (w : Rational) → IsSystemPoint before v → number_at (assigned (v ++ w ∷ [])) (the (next_number before)) ≡ w
+next_is before v w point =
+    let size = each_has_number before.columns v point.columns in
+    number_the (assigned (v ++ w ∷ [])) (next_number before) ∙ get_or_push v w zero (length before.columns + 1 - 1) (omega arith)
+
+pub form_over : (n b : ℕ) (flag : Bool) → 0 < b → b ≤ n → IsOver n (literal_form b flag)
 form_over n b true some few = over_the n b some few
 form_over n b false some few = over_difference n (known one) (the b) (over_known n one) (over_the n b some few)
 
-join_rows_are : (source : RowFrom) (join : Join) (n : ℕ) (p q r : LinearForm) → IsOver n p → IsOver n q → IsOver n r → All (IsGivenRow n) (join_rows source join p q r)
+pub join_rows_are : (source : RowFrom) (join : Join) (n : ℕ) (p q r : LinearForm) → IsOver n p → IsOver n q → IsOver n r → All (IsGivenRow n) (join_rows source join p q r)
 join_rows_are source And n p q r f g h =
     let less = over_difference n (r ⊖ p) q (over_difference n r p h f) g in
     let twice = over_difference n (r ⊕ r ⊖ p) q (over_difference n (r ⊕ r) p (over_sum n r r h h) f) g in
@@ -146,20 +162,13 @@ join_makes base before source join f g p q l after valid over p_some p_few p_tel
     let (l_is, after_is) = pair_parts (literal made.0 true) l made.1 after last in
     let both : ◌≡◌ {A = ℕ × LinearSystem} (b, later) made = cc in
     let placed_there = placed_is source.place before later (binary_step rows) later_is in
-    let told_later : (v : List Rational) (w : Rational) (k : Literal) (t : List Rational → Bool) → IsSystemPoint before v → 0 < k.column → k.column ≤ n → ((u : List Rational) → IsSystemPoint before u → literal_at u k ≡ number_of (t (first_numbers base u))) → literal_at (v ++ w ∷ []) k ≡ number_of (t (first_numbers base v)) =
-    λ v w k t point some few tells.
-    sym (kept_literal n (v ++ w ∷ []) k some few) ∙ ap (λ (u : List Rational). literal_at u k) (first_joined n v (w ∷ []) (each_has_number before.columns v point.columns)) ∙ tells v point in
-    let new_is : (v : List Rational) (w : Rational) → IsSystemPoint before v → number_at (assigned (v ++ w ∷ [])) (the b) ≡ w =
-    λ v w point.
-    let size = each_has_number before.columns v point.columns in
-    number_the (assigned (v ++ w ∷ [])) b ∙ get_or_push v w zero (n + 1 - 1) (omega arith) in
     let all : LiteralMade base before (λ v. joined_truths join (f v) (g v)) (literal b true) (with_step before (binary_step rows)) =
     column_made base before (λ v. joined_truths join (f v) (g v)) source.place rows later valid over
     (join_rows_are source join (n + 1) (is p) (is q) (the b) (form_over (n + 1) p.column p.positive p_some (omega arith)) (form_over (n + 1) q.column q.positive q_some (omega arith)) (over_the (n + 1) b (omega arith) (omega arith)))
     later_is
     (λ v w point two.
-    let e = new_is v w point in
-    let kept = join_kept source join (assigned (v ++ w ∷ [])) (is p) (is q) (the b) (f (first_numbers base v)) (g (first_numbers base v)) (subst IsBinary (sym e) two) (told_later v w p f point p_some p_few p_tells) (told_later v w q g point q_some q_few q_tells) in
+    let e = next_is before v w point in
+    let kept = join_kept source join (assigned (v ++ w ∷ [])) (is p) (is q) (the b) (f (first_numbers base v)) (g (first_numbers base v)) (subst IsBinary (sym e) two) (told_before base before f p v w point p_some p_few p_tells) (told_before base before g q v w point q_some q_few q_tells) in
     subst (λ (m : Rational). KeepConstraints (assigned (v ++ w ∷ [])) (map given_constraint rows) ↔ ((m ≡ one) ↔ IsTrue (joined_truths join (f (first_numbers base v)) (g (first_numbers base v))))) e kept) in
     subst (λ (k : Literal). LiteralMade base before (λ v. joined_truths join (f v) (g v)) k after) (ap (λ (m : ℕ × LinearSystem). literal m.0 true) both ∙ l_is)
     (subst (λ (m : LinearSystem). LiteralMade base before (λ v. joined_truths join (f v) (g v)) (literal b true) m) (sym placed_there ∙ ap (λ (m : ℕ × LinearSystem). m.1) both ∙ after_is) all)
@@ -170,7 +179,7 @@ truth_over : (n : ℕ) (t : LinearForm) (r : Rational) → IsOver n t → IsOver
 truth_over n t r over =
     over_difference (n + 1) t (r ⊙ the (n + 1)) (over_more n (n + 1) t (omega arith) over) (over_multiple (n + 1) r (the (n + 1)) (over_the (n + 1) (n + 1) (omega arith) (omega arith)))
 
-truth_rows_are : (source : RowFrom) (t : Ranged) (c : Rational) (n : ℕ) → IsOver n t.form → All (IsGivenRow (n + 1)) (truth_of source t c (n + 1)).rows
+pub truth_rows_are : (source : RowFrom) (t : Ranged) (c : Rational) (n : ℕ) → IsOver n t.form → All (IsGivenRow (n + 1)) (truth_of source t c (n + 1)).rows
 truth_rows_are source t c n over =
     let first : LinearForm = t.form ⊖ minus c t.low ⊙ the (n + 1) in
     let second : LinearForm = t.form ⊖ plus (minus t.high c) one ⊙ the (n + 1) in
@@ -219,9 +228,40 @@ pub negated_made : (base before : LinearSystem) (truth : List Rational → Bool)
 negated_made base before truth l after made = record {
   valid = made.valid;
   widens = made.widens;
-  from_one = made.from_one;
+  is_new = made.is_new;
   in_columns = made.in_columns;
   is_binary = made.is_binary;
   tells = λ q point. form_negated q l.column l.positive ∙ minus_not (truth (first_numbers base q)) _ (made.tells q point);
   covered = made.covered;
 }
+
+-- ---- what was made, told on
+
+-- one after another
+pub literal_follows : (base before middle after : LinearSystem) (f g : List Rational → Bool) (p l : Literal) → LiteralMade base before f p middle → LiteralMade base middle g l after → LiteralMade base before g l after
+literal_follows base before middle after f g p l first second = record {
+  valid = second.valid;
+  widens = widens_further after middle before first.valid first.widens second.widens;
+  is_new = let le = columns_after middle before first.widens.extends in let lt : length middle.columns < l.column = second.is_new in omega arith;
+  in_columns = second.in_columns;
+  is_binary = second.is_binary;
+  tells = second.tells;
+  covered = λ c. second.covered (first.covered c);
+}
+
+-- the truth in another way
+pub literal_retold : (base before after : LinearSystem) (f g : List Rational → Bool) (l : Literal) → ((p : List Rational) → f p ≡ g p) → LiteralMade base before f l after → LiteralMade base before g l after
+literal_retold base before after f g l same made = record {
+  valid = made.valid;
+  widens = made.widens;
+  is_new = made.is_new;
+  in_columns = made.in_columns;
+  is_binary = made.is_binary;
+  tells = λ q point. made.tells q point ∙ ap number_of (same (first_numbers base q));
+  covered = made.covered;
+}
+
+-- the same literal and system, as an encoding gives them
+pub literal_given : (base before : LinearSystem) (truth : List Rational → Bool) (k l : Literal) (later after : LinearSystem) → LiteralMade base before truth k later → k ≡ l → later ≡ after → LiteralMade base before truth l after
+literal_given base before truth k l later after made same there =
+    subst (λ (m : LinearSystem). LiteralMade base before truth l m) there (subst (λ (p : Literal). LiteralMade base before truth p later) same made)

@@ -1,5 +1,5 @@
 -- Conditions as literals: what a ground condition makes, one step after another, and its literal.
-use Rattle.std.specs.Prelude.{ℕ, Bool, true, false, List, Result, Ok, Err}
+use Rattle.std.specs.Prelude.{ℕ, Bool, true, false, Result}
 use Rattle.zim_answer.specs.Answer.{◌>>=◌, goes}
 use Rattle.zim_fault.specs.declared.faults.Fault.{Fault}
 use Rattle.zim_fault.specs.declared.faults.Place.{Place}
@@ -30,14 +30,18 @@ equal_column source t =
     truth_column source zero (opposite t) then λ l.
     with_binary source.place (equal_rows source g l)
 
+-- The column that an encoding gives, as a literal, or its negation where the flag isn't set.
+abbrev pub signed_column : Encoding ℕ → Bool → Encoding Literal
+signed_column encoding positive = encoding then λ b. gives (literal b positive)
+
 -- The literal of a comparison of T with 0.
 unfoldable pub comparison_literal : RowFrom → Relation → Ranged → Encoding Literal
-comparison_literal source AtLeast t = truth_column source zero t then λ b. gives (literal b true)
-comparison_literal source GreaterThan t = truth_column source one t then λ b. gives (literal b true)
-comparison_literal source LessThan t = truth_column source zero t then λ b. gives (literal b false)
-comparison_literal source AtMost t = truth_column source one t then λ b. gives (literal b false)
-comparison_literal source EqualTo t = equal_column source t then λ e. gives (literal e true)
-comparison_literal source NotEqualTo t = equal_column source t then λ e. gives (literal e false)
+comparison_literal source AtLeast t = signed_column (truth_column source zero t) true
+comparison_literal source GreaterThan t = signed_column (truth_column source one t) true
+comparison_literal source LessThan t = signed_column (truth_column source zero t) false
+comparison_literal source AtMost t = signed_column (truth_column source one t) false
+comparison_literal source EqualTo t = signed_column (equal_column source t) true
+comparison_literal source NotEqualTo t = signed_column (equal_column source t) false
 
 -- The difference of two terms: the form of the left one, that of the right one, and the second taken from the first at the place.
 abbrev pub difference_of : ℕ → Place → GTerm → GTerm → Encoding LinearForm
@@ -51,6 +55,10 @@ abbrev pub compared_form : RowFrom → Relation → LinearForm → Encoding Lite
 compared_form source relation form system =
     ranged_at source.place form system.columns >>= λ t. comparison_literal source relation t system
 
+-- The literal of a comparison of two terms at the place of the source.
+abbrev pub comparison_makes : RowFrom → Relation → GTerm → GTerm → Encoding Literal
+comparison_makes source relation left right = difference_of source.statement source.place left right then compared_form source relation
+
 -- A literal so far, and the system after what was made for it.
 abbrev pub Joined : Type 0
 Joined = Literal × LinearSystem
@@ -62,14 +70,14 @@ join_turn statement so_far operand =
 
 -- The literal of a known truth value: whether the form 0 is at least 0, or at least 1.
 abbrev pub known_literal : RowFrom → Bool → Encoding Literal
-known_literal source true = truth_column source zero nought then λ b. gives (literal b true)
-known_literal source false = truth_column source one nought then λ b. gives (literal b true)
+known_literal source true = signed_column (truth_column source zero nought) true
+known_literal source false = signed_column (truth_column source one nought) true
 
 -- What a condition makes whose parts are what they make. Known parts have the place of the source.
 abbrev pub condition_makes : RowFrom → GCond-F (Encoding Literal) → Encoding Literal
 condition_makes source (GCond-F.Known truth) = known_literal source truth
 condition_makes source (GCond-F.Compare place relation left right) =
-    difference_of source.statement place left right then λ form. compared_form (from_place source.statement place) relation form
+    comparison_makes (from_place source.statement place) relation left right
 condition_makes source (GCond-F.Chain first others) = first then λ p system. goes (join_turn source.statement) (p, system) others
 condition_makes source (GCond-F.Not place operand) = operand then λ p. gives (negation p)
 

@@ -47,6 +47,10 @@ row_least : (s k r : Rational) → IsAtMost (plus r (negate k)) s ↔ IsAtMost r
 row_least =
     common3 (λ s k r. IsAtMost (plus r (negate k)) s ↔ IsAtMost r (plus s k)) (λ x y u v s t d some. simp fractions (omega arith))
 
+row_equal : (s k r : Rational) → (s ≡ plus r (negate k)) ↔ (plus s k ≡ r)
+row_equal =
+    common3 (λ s k r. (s ≡ plus r (negate k)) ↔ (plus s k ≡ r)) (λ x y u v s t d some. simp fractions (omega arith))
+
 pub most_kept : (x : ColumnNumbers) (source : RowFrom) (f : LinearForm) (right : Rational) → KeepConstraints x (given_constraint (compared_row source f sense.AtMost right) ∷ []) ↔ IsAtMost (number_at x f) right
 unfolding number_at
 most_kept x source f right =
@@ -57,6 +61,12 @@ pub least_kept : (x : ColumnNumbers) (source : RowFrom) (f : LinearForm) (right 
 unfolding number_at
 least_kept x source f right =
     let r = row_least (sum_at x f.terms) f.constant right in
+    (λ h. r.0 h.0, λ h. (r.1 h, tt))
+
+pub equal_kept : (x : ColumnNumbers) (source : RowFrom) (f : LinearForm) (right : Rational) → KeepConstraints x (given_constraint (compared_row source f sense.Equal right) ∷ []) ↔ (number_at x f ≡ right)
+unfolding number_at
+equal_kept x source f right =
+    let r = row_equal (sum_at x f.terms) f.constant right in
     (λ h. r.0 h.0, λ h. (r.1 h, tt))
 
 -- rows one after another

@@ -17,7 +17,7 @@ use Rattle.zim_rows.specs.System.{row_of}
 use Rattle.zim_logic_rows.specs.LogicRows.{compared_row}
 use Rattle.zim_logic_rows.proofs.ValidLaws.{columns_more}
 
-multiple_ordered : (q : Rational) (b : ℕ) → AreTerms (q ⊙ the b).terms
+pub multiple_ordered : (q : Rational) (b : ℕ) → AreTerms (q ⊙ the b).terms
 multiple_ordered q b = with_terms_ordered [] (map (λ (t : Term). (t.0, times t.1 q)) (the b).terms) tt
 
 -- a multiple of a column with its sign turned
@@ -35,7 +35,7 @@ pub less_is : (a : LinearForm) (q : Rational) (b : ℕ) → a ⊖ q ⊙ the b �
 less_is a q b = ap (λ (f : LinearForm). a ⊕ f) (turned_multiple q b)
 
 -- a multiple of a column has no constant
-kept_constant : (a : LinearForm) (q : Rational) (b : ℕ) → (a ⊕ q ⊙ the b).constant ≡ a.constant
+pub kept_constant : (a : LinearForm) (q : Rational) (b : ℕ) → (a ⊕ q ⊙ the b).constant ≡ a.constant
 kept_constant a q b = ap (plus a.constant) (zero_times q) ∙ plus_zero a.constant
 
 -- a row whose right side is what is left of r without the constant

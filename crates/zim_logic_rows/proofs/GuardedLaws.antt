@@ -10,8 +10,9 @@ use Rattle.zim_linear.specs.Forms.{LinearForm, ColumnNumbers, number_at}
 use Rattle.zim_rows.specs.declared.rows.GivenRow.{GivenRow}
 use Rattle.zim_rows.specs.declared.rows.RowFrom.{RowFrom}
 use Rattle.zim_rows.specs.Points.{KeepConstraints, given_constraint}
-use Rattle.zim_forms.specs.Algebra.{◌⊕◌, ◌⊙◌}
+use Rattle.zim_forms.specs.Algebra.{◌⊕◌, ◌⊙◌, form_sum}
 use Rattle.zim_forms.proofs.AlgebraLaws.{number_sum, number_multiple}
+use Rattle.zim_forms.proofs.MultipleLaws.{sum_is}
 use Rattle.zim_logic_rows.specs.declared.Literal.{Literal}
 use Rattle.zim_logic_rows.specs.Literals.{is}
 use Rattle.zim_logic_rows.specs.Guards.{under_most, under_least}
@@ -32,11 +33,12 @@ number_guarded x c b slack d e =
 pub guarded_most_kept : (x : ColumnNumbers) (source : RowFrom) (c : LinearForm) (guard : Literal) (v high : Rational) (row : GivenRow) → under_most source c guard v high ≡ Ok row → IsBinary (number_at x (is guard)) → IsAtMost (number_at x c) high
     → KeepConstraints x (given_constraint row ∷ []) ↔ (number_at x (is guard) ≡ one → IsAtMost (number_at x c) v)
 guarded_most_kept x source c guard v high row h two under =
-    let m = bind_gave (difference_answer high v) _ row h in
-    let e = number_guarded x c (is guard) m.0 (minus high v) (difference_gave high v m.0 m.1) in
-    let kept = most_kept x source (c ⊕ m.0 ⊙ is guard) high in
+    let (slack, slack_is, rest) = bind_gave (difference_answer high v) _ row h in
+    let (f, f_is, last) = bind_gave (form_sum c (slack ⊙ is guard)) _ row rest in
+    let e = ap (number_at x) (sum_is c (slack ⊙ is guard) f f_is) ∙ number_guarded x c (is guard) slack (minus high v) (difference_gave high v slack slack_is) in
+    let kept = most_kept x source f high in
     let says = guarded_at_most (number_at x c) v high (number_at x (is guard)) two under in
-    subst (λ (r : GivenRow). KeepConstraints x (given_constraint r ∷ []) ↔ (number_at x (is guard) ≡ one → IsAtMost (number_at x c) v)) (row_is m.2) (
+    subst (λ (r : GivenRow). KeepConstraints x (given_constraint r ∷ []) ↔ (number_at x (is guard) ≡ one → IsAtMost (number_at x c) v)) (row_is last) (
       λ k. says.0 (subst (λ (n : Rational). IsAtMost n high) e (kept.0 k)),
       λ k. kept.1 (subst (λ (n : Rational). IsAtMost n high) (sym e) (says.1 k)),
     ) where
@@ -46,11 +48,12 @@ guarded_most_kept x source c guard v high row h two under =
 pub guarded_least_kept : (x : ColumnNumbers) (source : RowFrom) (c : LinearForm) (guard : Literal) (v low : Rational) (row : GivenRow) → under_least source c guard v low ≡ Ok row → IsBinary (number_at x (is guard)) → IsAtMost low (number_at x c)
     → KeepConstraints x (given_constraint row ∷ []) ↔ (number_at x (is guard) ≡ one → IsAtMost v (number_at x c))
 guarded_least_kept x source c guard v low row h two above =
-    let m = bind_gave (difference_answer low v) _ row h in
-    let e = number_guarded x c (is guard) m.0 (minus low v) (difference_gave low v m.0 m.1) in
-    let kept = least_kept x source (c ⊕ m.0 ⊙ is guard) low in
+    let (slack, slack_is, rest) = bind_gave (difference_answer low v) _ row h in
+    let (f, f_is, last) = bind_gave (form_sum c (slack ⊙ is guard)) _ row rest in
+    let e = ap (number_at x) (sum_is c (slack ⊙ is guard) f f_is) ∙ number_guarded x c (is guard) slack (minus low v) (difference_gave low v slack slack_is) in
+    let kept = least_kept x source f low in
     let says = guarded_at_least (number_at x c) v low (number_at x (is guard)) two above in
-    subst (λ (r : GivenRow). KeepConstraints x (given_constraint r ∷ []) ↔ (number_at x (is guard) ≡ one → IsAtMost v (number_at x c))) (row_is m.2) (
+    subst (λ (r : GivenRow). KeepConstraints x (given_constraint r ∷ []) ↔ (number_at x (is guard) ≡ one → IsAtMost v (number_at x c))) (row_is last) (
       λ k. says.0 (subst (IsAtMost low) e (kept.0 k)),
       λ k. kept.1 (subst (IsAtMost low) (sym e) (says.1 k)),
     ) where

@@ -1,18 +1,18 @@
--- The rows of a join say that its column is 1 exactly where the operands have the joined truth.
-use Rattle.std.proofs.Common.{◌≡◌, ◌≢◌, ◌↔◌, ◌&&◌, ◌||◌, if◌then◌else◌, Bool, true, false, not, IsTrue, map, refl, ap, ap₂, sym, ◌∙◌, subst}
+-- The rows of a join, and that of an equality, say that its column is 1 exactly where the operands have the joined truth.
+use Rattle.std.proofs.Common.{◌≡◌, ◌≢◌, ◌↔◌, ◌&&◌, ◌||◌, if◌then◌else◌, ℕ, Bool, true, false, not, IsTrue, IsFalse, map, refl, ap, ap₂, sym, ◌∙◌, subst}
 use Rattle.std.proofs.lemmas.Bool.{and_from, and_parts}
 use Rattle.zim_fault.specs.declared.tokens.Join.{Join}
 use Rattle.zim_fault.specs.declared.tokens.Join.TheVariants.{And, Or, Xor}
 use Rattle.zim_rational.specs.Rational.{Rational, zero, one, plus, minus, negate, IsAtMost, IsBinary}
-use Rattle.zim_rational.proofs.Rows.{and_rows, or_rows, xor_rows}
+use Rattle.zim_rational.proofs.Rows.{and_rows, or_rows, xor_rows, equal_row}
 use Rattle.zim_linear.specs.Forms.{LinearForm, ColumnNumbers, number_at}
 use Rattle.zim_formula.specs.Ground.{joined_truths}
 use Rattle.zim_rows.specs.declared.rows.RowFrom.{RowFrom}
 use Rattle.zim_rows.specs.Points.{KeepConstraints, given_constraint}
-use Rattle.zim_forms.specs.Algebra.{◌⊕◌, ◌⊖◌}
+use Rattle.zim_forms.specs.Algebra.{◌⊕◌, ◌⊖◌, the}
 use Rattle.zim_forms.proofs.AlgebraLaws.{number_sum, number_difference}
-use Rattle.zim_logic_rows.specs.Literals.{number_of, join_rows}
-use Rattle.zim_logic_rows.proofs.BinaryLaws.{most_kept, least_kept, number_one, number_zero, number_binary, number_from}
+use Rattle.zim_logic_rows.specs.Literals.{number_of, join_rows, equal_rows}
+use Rattle.zim_logic_rows.proofs.BinaryLaws.{most_kept, least_kept, equal_kept, number_one, number_zero, number_binary, number_from}
 
 -- ---- truth values
 
@@ -120,3 +120,17 @@ unfolding joined_truths
 join_kept source And x p q r f g two e d = and_kept source x p q r f g two e d
 join_kept source Or x p q r f g two e d = or_kept source x p q r f g two e d
 join_kept source Xor x p q r f g two e d = xor_kept source x p q r f g two e d
+
+-- the column e of two columns, one of which is true, is their conjunction
+pub equal_rows_kept : (source : RowFrom) (x : ColumnNumbers) (g l e : ℕ) (f h : Bool) → IsBinary (number_at x (the e)) → number_at x (the g) ≡ number_of f → number_at x (the l) ≡ number_of h → (IsFalse f → IsFalse h → ⊥)
+    → KeepConstraints x (map given_constraint (equal_rows source g l e)) ↔ ((number_at x (the e) ≡ one) ↔ IsTrue (f && h))
+equal_rows_kept source x g l e f h two at_g at_l some =
+    let R : Rational = number_at x (the e) in
+    let value : number_at x (the e ⊖ the g ⊖ the l) ≡ minus (minus R (number_of f)) (number_of h) =
+    number_difference x (the e ⊖ the g) (the l) ∙ ap₂ minus (number_difference x (the e) (the g) ∙ ap (minus R) at_g) at_l in
+    let row = equal_row (number_of f) (number_of h) R (number_binary f) (number_binary h) two (λ a b. some ((number_zero f).0 a) ((number_zero h).0 b)) in
+    let both = and_truth f h in
+    let kept = equal_kept x source (the e ⊖ the g ⊖ the l) (negate one) in (
+      λ k. let says = row.0 (sym value ∙ kept.0 k) in (λ t. both.0 (says.0 t), λ t. says.1 (both.1 t)),
+      λ k. kept.1 (value ∙ row.1 (λ t. both.1 (k.0 t), λ t. k.1 (both.0 t))),
+    )

@@ -9,3 +9,4 @@ pub mod ColumnLaws
 pub mod TruthStepLemmas
 pub mod SizeStepLemmas
 pub mod RefusalLaws
+mod JoinRowLemmas

@@ -7,12 +7,14 @@
 //! comparison holds. The calls make the columns and rows of a step; a system takes them by `add_step`.
 #![tactic(auto)]
 
+mod joins;
 mod sizes;
 mod steps;
 mod truth;
 
+pub use joins::{equal_rows, join_rows};
 pub use sizes::absolute_step;
-pub use steps::{NewStep, past_at};
+pub use steps::{NewStep, binary_column, past_at};
 pub use truth::truth_step;
 use zim_fraction::Fraction;
 use zim_linear::Form;

@@ -1,11 +1,11 @@
 // The columns and rows of a step, and the refusal of its numbers.
 ghost use Rattle.std.specs.Prelude.{◌≡◌};
-ghost use Rattle.zim_rows.specs.Steps.{given_row};
+ghost use Rattle.zim_rows.specs.Steps.{given_row, binary};
 ghost use Rattle.zim_logic_rows.specs.Steps.{terms_row, past_refused};
 
 use zim_fault::{Fault, Kind, Place, Sequence};
 use zim_fraction::Fraction;
-use zim_linear::{Form, LinFault};
+use zim_linear::{Form, LinFault, Sides};
 use zim_rows::{Column, EncodeFault, NewRow, RowFrom, RowKind, Sense};
 
 /// The columns and the rows of an encoding step, which are to stand at the ends of a system.
@@ -36,5 +36,18 @@ pub(crate) fn new_row(from: RowFrom, form: Form, sense: Sense, right: Fraction) 
         from,
         form,
         kind: RowKind::One(sense, right),
+    }
+}
+
+/// A binary column: a whole number from 0 to 1.
+pub fn binary_column() -> Column
+    ensures { result ≡ binary }
+{
+    Column {
+        integer: true,
+        sides: Sides {
+            low: Some(Fraction::zero()),
+            high: Some(Fraction::one()),
+        },
     }
 }

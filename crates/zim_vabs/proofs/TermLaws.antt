@@ -44,7 +44,7 @@ columns_after later earlier more =
     let e : length later.columns ≡ length earlier.columns + length more.columns.0 = ap length more.columns.1 ∙ length-append earlier.columns more.columns.0 in
     omega arith
 
-number_cut : (s : LinearSystem) (q : List Rational) (f : LinearForm) → AreColumns (length s.columns) f.terms → number_at (assigned (first_numbers s q)) f ≡ number_at (assigned q) f
+pub number_cut : (s : LinearSystem) (q : List Rational) (f : LinearForm) → AreColumns (length s.columns) f.terms → number_at (assigned (first_numbers s q)) f ≡ number_at (assigned q) f
 unfolding number_at
 number_cut s q f over = ap (λ (n : Rational). plus n f.constant) (sum_cut (length s.columns) q f.terms over)
 
