@@ -1,0 +1,10 @@
+pub mod World
+pub mod Operations
+pub mod Expressions
+pub mod Loops
+pub mod Value
+pub mod DataFiles
+pub mod Statements
+pub mod Printing
+pub mod Standing
+pub mod Worked
