@@ -48,8 +48,8 @@ abbrev pub tuple_faults : Scope → Names → Angle → List Fault
 tuple_faults scope names tuple = all_faults role.Value names (parts_of_angle scope tuple)
 
 -- the faults of an index
-abbrev pub index_faults : Scope → Names → Index → List Fault
-index_faults scope names index = (part_of_index scope index).faults role.Value names
+abbrev pub statement_index_faults : Scope → Names → Index → List Fault
+statement_index_faults scope names index = (part_of_index scope index).faults role.Value names
 
 -- the names that are bound behind an index
 abbrev pub index_names : Scope → Names → Index → Names
@@ -92,7 +92,7 @@ table_faults scope names table = values_faults scope names table.head ++ rows_fa
 abbrev pub brackets_faults : Scope → Option Bracket → List Fault
 brackets_faults scope None = []
 brackets_faults scope (Some Empty) = []
-brackets_faults scope (Some (Loop index)) = index_faults scope [] index
+brackets_faults scope (Some (Loop index)) = statement_index_faults scope [] index
 brackets_faults scope (Some (Over set)) = value_faults scope [] set
 
 -- the names that are bound behind them
@@ -141,7 +141,7 @@ all_printed_faults scope names items = flat_map (printed_faults scope names) ite
 abbrev pub faults_in_doing : Scope → Doing-F (Names → List Fault) → Names → List Fault
 faults_in_doing scope (Doing-F.Print place items) names = all_printed_faults scope names items
 faults_in_doing scope (Doing-F.Check place test) names = value_faults scope names test
-faults_in_doing scope (Doing-F.Forall place index with_do inside) names = index_faults scope names index ++ inside (index_names scope names index)
+faults_in_doing scope (Doing-F.Forall place index with_do inside) names = statement_index_faults scope names index ++ inside (index_names scope names index)
 
 -- the faults of what a `do` does
 abbrev pub doing_faults : Scope → Doing → Names → List Fault

@@ -68,7 +68,7 @@ pub(crate) fn put_bar_or_with(bar: bool, to: &mut Speller)
 
 /// Puts the sign of an exponent at the end, if it has one.
 pub(crate) fn put_exponent_sign(signed: &Option<(Place, bool)>, to: &mut Speller)
-    ensures { Spells to.old to.new (spec.exponent_sign signed.now) }
+    ensures { Spells to.old to.new (spec.exponent_sign_spelled signed.now) }
 {
     if let Some((_, minus)) = signed {
         put_plus_or_minus(*minus, to);

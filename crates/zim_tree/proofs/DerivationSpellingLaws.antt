@@ -11,7 +11,7 @@ use Rattle.zim_tree.specs.declared.expr.Index.{Index}
 use Rattle.zim_tree.specs.declared.expr.Body.{Body}
 use Rattle.zim_tree.specs.Levels.{Level, Chain, Operands, factorial, exclamations, exponent_sign as exponent_tokens}
 use Rattle.zim_tree.specs.Grammar.{Reads, ReadsOperands, ReadsList, ReadsTuple, ReadsTuples, ReadsIndex, ReadsBody, a_number, a_text, a_truth, an_infinity, a_name, an_item, a_bare_call, a_call, a_function, a_projection, in_parentheses, in_braces, an_if, an_if_with_else, a_postfix, no_power, a_power, no_sign, a_sign, a_big, no_loop_sign, a_loop_sign, a_product, a_loop, a_product_with_loop, a_chain, a_member, no_not, a_not, no_forall, a_forall, no_operand, an_operand, the_last, one_more, a_tuple, the_last_tuple, one_more_tuple, an_index, an_index_with, nothing, the_members, the_tuples, the_choices, a_span, a_span_by}
-use Rattle.zim_tree.specs.Spelling.{Tokens, spelling, angle_spelling, index_spelling, body_spelling, with_commas, after_commas, marks, exponent_sign}
+use Rattle.zim_tree.specs.Spelling.{Tokens, spelling, angle_spelling, index_spelling, body_spelling, with_commas, after_commas, marks, exponent_sign_spelled}
 use Rattle.zim_tree.proofs.SpellingLaws.{spelling-angle, spelling-index, spelling-Number, spelling-Text, spelling-Truth, spelling-Infinity, spelling-Name, spelling-Item, spelling-Call, spelling-Func, spelling-Proj, spelling-Paren, spelling-Braces, spelling-If, spelling-Factorial, spelling-Power, spelling-Signed, spelling-Big, spelling-Times, spelling-Member, spelling-Not, spelling-Forall, spelling-Empty, spelling-Members, spelling-Tuples, spelling-Those, spelling-Span}
 use Rattle.zim_tree.proofs.OperatorLemmas.{operands_spelling, operands_spelling-nil, operands_spelling-cons, joined-spelling}
 
@@ -30,7 +30,7 @@ factorial-spelling : (operand : Expr) (places : List Place) → spelling (factor
 factorial-spelling operand [] = sym (append-nil (spelling operand))
 factorial-spelling operand (p ∷ places) = spelling-Factorial operand (p ∷ places)
 
-tokens-exponent : (signed : Option (Place × Bool)) → tokens (exponent_tokens signed) ≡ exponent_sign signed
+tokens-exponent : (signed : Option (Place × Bool)) → tokens (exponent_tokens signed) ≡ exponent_sign_spelled signed
 tokens-exponent None = refl
 tokens-exponent (Some sign) = refl
 

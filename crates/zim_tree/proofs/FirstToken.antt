@@ -10,7 +10,7 @@ use Rattle.zim_tree.specs.declared.expr.Index.{Index, fold-Index}
 use Rattle.zim_tree.specs.declared.expr.Body.{Body, fold-Body}
 use Rattle.zim_tree.specs.Levels.{Level, Chain, products, sums, relations, conjunctions, disjunctions, Operands, joined, compared, conjoined, disjoined, factorial, exclamations}
 use Rattle.zim_tree.specs.Grammar.{Reads, ReadsTuple, a_number, a_text, a_truth, an_infinity, a_name, an_item, a_bare_call, a_call, a_function, a_projection, in_parentheses, in_braces, an_if, an_if_with_else, a_postfix, no_power, a_power, no_sign, a_sign, a_big, no_loop_sign, a_loop_sign, a_product, a_loop, a_product_with_loop, a_chain, a_member, no_not, a_not, no_forall, a_forall, a_tuple}
-use Rattle.zim_tree.specs.FirstPlace.{expr_step, angle_step, index_step, body_step, first_place}
+use Rattle.zim_tree.specs.FirstPlace.{first_in_expr, first_in_angle, first_in_index, first_in_body, first_place}
 
 -- the place of the first token, if there is one
 abbrev pub begins_at : List Placed → Option Place
@@ -22,21 +22,21 @@ begins-append [] us p h = absurd (none-some p h)
 begins-append (t ∷ ts) us p h = h
 
 abbrev body_first : Body → Unit {0}
-body_first = fold-Body (Unit {0}) Place Place Place body_step expr_step angle_step index_step
+body_first = fold-Body (Unit {0}) Place Place Place first_in_body first_in_expr first_in_angle first_in_index
 
 abbrev angle_first : Angle → Place
-angle_first = fold-Angle (Unit {0}) Place Place Place body_step expr_step angle_step index_step
+angle_first = fold-Angle (Unit {0}) Place Place Place first_in_body first_in_expr first_in_angle first_in_index
 
 abbrev index_first : Index → Place
-index_first = fold-Index (Unit {0}) Place Place Place body_step expr_step angle_step index_step
+index_first = fold-Index (Unit {0}) Place Place Place first_in_body first_in_expr first_in_angle first_in_index
 
 -- the first place of a layer, where those of its parts are known
 abbrev first_of_layer : Expr-F Body Expr Angle Index → Place
-first_of_layer d = expr_step (map-Expr Body Expr Angle Index (Unit {0}) Place Place Place body_first first_place angle_first index_first d)
+first_of_layer d = first_in_expr (map-Expr Body Expr Angle Index (Unit {0}) Place Place Place body_first first_place angle_first index_first d)
 
 -- the first place of a tree that is made of a layer
 first : (d : Expr-F Body Expr Angle Index) {e : Expr} → roll-Expr d ≡ e → Some (first_of_layer d) ≡ Some (first_place e)
-first d h = sym (ap (λ (e : Expr). Some (first_place e)) (sym h) ∙ ap Some (fold-roll-Expr (Unit {0}) Place Place Place body_step expr_step angle_step index_step d))
+first d h = sym (ap (λ (e : Expr). Some (first_place e)) (sym h) ∙ ap Some (fold-roll-Expr (Unit {0}) Place Place Place first_in_body first_in_expr first_in_angle first_in_index d))
 
 factorial-first : (operand : Expr) (marks : List Place) → Some (first_place operand) ≡ Some (first_place (factorial operand marks))
 factorial-first operand [] = refl
@@ -52,7 +52,7 @@ joined-first disjunctions operand (x ∷ others) = first (Expr-F.Or operand (dis
 
 tuple_first : {ts : List Placed} {tuple : Angle} → ReadsTuple ts tuple → begins_at ts ≡ Some (angle_first tuple)
 tuple_first (a_tuple p q {items = items} d) =
-    ap Some (sym (fold-roll-Angle (Unit {0}) Place Place Place body_step expr_step angle_step index_step (record { place = p; items = items })))
+    ap Some (sym (fold-roll-Angle (Unit {0}) Place Place Place first_in_body first_in_expr first_in_angle first_in_index (record { place = p; items = items })))
 
 -- a derivation's first token stands at the tree's first place
 pub reads_first : {level : Level} {ts : List Placed} {e : Expr} → Reads level ts e → begins_at ts ≡ Some (first_place e)

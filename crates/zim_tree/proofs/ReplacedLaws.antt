@@ -13,20 +13,20 @@ use Rattle.zim_tree.specs.declared.expr.Index.{Index, fold-roll-Index}
 use Rattle.zim_tree.specs.declared.expr.Body.{Body, Body-F, roll-Body, map-Body, fold-roll-Body}
 use Rattle.zim_tree.specs.declared.expr.Body.TheVariants as body
 use Rattle.zim_tree.specs.Trees.{angle_of, index_of}
-use Rattle.zim_tree.specs.Plain.{expr_step, angle_step, index_step, body_step, replaced, replaced_angle, replaced_index, replaced_body}
+use Rattle.zim_tree.specs.Plain.{expr_replaced, angle_replaced, index_replaced, body_replaced, replaced, replaced_angle, replaced_index, replaced_body}
 
-at_expr : (put : Place → Place) (d : Expr-F Body Expr Angle Index) → replaced put (roll-Expr d) ≡ expr_step put (map-Expr Body Expr Angle Index Body Expr Angle Index (replaced_body put) (replaced put) (replaced_angle put) (replaced_index put) d)
-at_expr put = fold-roll-Expr Body Expr Angle Index body_step (expr_step put) (angle_step put) (index_step put)
+at_expr : (put : Place → Place) (d : Expr-F Body Expr Angle Index) → replaced put (roll-Expr d) ≡ expr_replaced put (map-Expr Body Expr Angle Index Body Expr Angle Index (replaced_body put) (replaced put) (replaced_angle put) (replaced_index put) d)
+at_expr put = fold-roll-Expr Body Expr Angle Index body_replaced (expr_replaced put) (angle_replaced put) (index_replaced put)
 
-at_body : (put : Place → Place) (d : Body-F Body Expr Angle Index) → replaced_body put (roll-Body d) ≡ body_step (map-Body Body Expr Angle Index Body Expr Angle Index (replaced_body put) (replaced put) (replaced_angle put) (replaced_index put) d)
-at_body put = fold-roll-Body Body Expr Angle Index body_step (expr_step put) (angle_step put) (index_step put)
+at_body : (put : Place → Place) (d : Body-F Body Expr Angle Index) → replaced_body put (roll-Body d) ≡ body_replaced (map-Body Body Expr Angle Index Body Expr Angle Index (replaced_body put) (replaced put) (replaced_angle put) (replaced_index put) d)
+at_body put = fold-roll-Body Body Expr Angle Index body_replaced (expr_replaced put) (angle_replaced put) (index_replaced put)
 
 pub replaced-angle : (put : Place → Place) (place : Place) (items : List Expr) → replaced_angle put (angle_of place items) ≡ angle_of (put place) (map (replaced put) items)
-replaced-angle put place items = fold-roll-Angle Body Expr Angle Index body_step (expr_step put) (angle_step put) (index_step put) (record { place = place; items = items })
+replaced-angle put place items = fold-roll-Angle Body Expr Angle Index body_replaced (expr_replaced put) (angle_replaced put) (index_replaced put) (record { place = place; items = items })
 
 pub replaced-index : (put : Place → Place) (place : Place) (tuple : Angle) (set : Expr) (cond : Option (Bool × Expr)) → replaced_index put (index_of place tuple set cond) ≡ index_of (put place) (replaced_angle put tuple) (replaced put set) (option_map (λ (c : Bool × Expr). (c.0, replaced put c.1)) cond)
-replaced-index put place tuple set None = fold-roll-Index Body Expr Angle Index body_step (expr_step put) (angle_step put) (index_step put) (record { place = place; tuple = tuple; set = set; cond = None })
-replaced-index put place tuple set (Some c) = fold-roll-Index Body Expr Angle Index body_step (expr_step put) (angle_step put) (index_step put) (record { place = place; tuple = tuple; set = set; cond = Some c })
+replaced-index put place tuple set None = fold-roll-Index Body Expr Angle Index body_replaced (expr_replaced put) (angle_replaced put) (index_replaced put) (record { place = place; tuple = tuple; set = set; cond = None })
+replaced-index put place tuple set (Some c) = fold-roll-Index Body Expr Angle Index body_replaced (expr_replaced put) (angle_replaced put) (index_replaced put) (record { place = place; tuple = tuple; set = set; cond = Some c })
 
 pub replaced-Number : (put : Place → Place) (place : Place) (digits : List ℕ) → replaced put (tree.Number place digits) ≡ tree.Number (put place) digits
 replaced-Number put place digits = ap (replaced put) (sym (tree.rolls-Number place digits)) ∙ at_expr put (Expr-F.Number place digits)

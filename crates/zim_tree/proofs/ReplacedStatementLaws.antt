@@ -22,7 +22,7 @@ use Rattle.zim_tree.specs.declared.stmt.Printed.{Printed}
 use Rattle.zim_tree.specs.StatementGrammar.{AtMostOnce, is_skip, is_use, is_comment, LimitsKept, ReadsOptions, no_option, an_option, ReadsReading, a_reading, ReadsEntries, the_last_entry, one_more_entry, ReadsRows, the_last_row, one_more_row, ReadsTable, a_table, ReadsGiven, not_given, is_given, ReadsSetSide, a_set, a_set_read, a_family, a_set_for_each, sets_listed, ReadsParSide, a_value, a_value_read, a_value_for_each, values_listed, values_in_table, values_read, the_default, ReadsBracket, a_bracket_loop, a_bracket_over, ReadsBrackets, no_bracket, a_bracket, ReadsSetBrackets, filled_or_none, empty_brackets, ReadsKind, no_kind, a_kind, ReadsLimits, no_limit, a_limit, ReadsPrinted, a_printed_value, a_printed_tuple, ReadsPrintedList, the_last_printed, one_more_printed, ReadsDoing, a_print, a_check, for_each, ReadsNames, the_last_name, one_more_name, ReadsParameters, no_parameter, the_parameters, ReadsShape, a_set_statement, a_param_statement, a_var_statement, a_goal_statement, a_subto_statement, a_definition, a_do_statement, ReadsStatement, a_statement}
 use Rattle.zim_tree.specs.Plain.{replaced, replaced_index, replaced_tokens}
 use Rattle.zim_tree.proofs.ReplacedLaws.{replaced-Func}
-use Rattle.zim_tree.specs.PlainStatement.{replaced_bracket, replaced_given, replaced_option, replaced_reading, replaced_entry, replaced_row, replaced_table, replaced_set_side, replaced_par_side, replaced_limit, replaced_printed, doing_step, replaced_doing, replaced_parameter, replaced_shape, replaced_statement}
+use Rattle.zim_tree.specs.PlainStatement.{replaced_bracket, replaced_given, replaced_option, replaced_reading, replaced_entry, replaced_row, replaced_table, replaced_set_side, replaced_par_side, replaced_limit, replaced_printed, with_doing_places, replaced_doing, replaced_parameter, replaced_shape, replaced_statement}
 use Rattle.zim_tree.proofs.ReplacedDerivationLaws.{tokens_append, reads_replaced, list_replaced, tuple_replaced, index_replaced}
 
 count_options : (put : Place → Place) (p : Word → Bool) (options : List (Place × Word × Expr)) → count_by (λ (x : Place × Word × Expr). p x.1) (map (replaced_option put) options) ≡ count_by (λ (x : Place × Word × Expr). p x.1) options
@@ -116,8 +116,8 @@ printed_list_replaced : (put : Place → Place) {ts : List Placed} {items : List
 printed_list_replaced put (the_last_printed d) = the_last_printed (printed_replaced put d)
 printed_list_replaced put (one_more_printed p d e) = rw (tokens_append put) (one_more_printed (put p) (printed_replaced put d) (printed_list_replaced put e))
 
-at_doing : (put : Place → Place) (d : Doing-F Doing) → replaced_doing put (roll-Doing d) ≡ doing_step put (map-Doing Doing Doing (replaced_doing put) d)
-at_doing put = fold-roll-Doing Doing (doing_step put)
+at_doing : (put : Place → Place) (d : Doing-F Doing) → replaced_doing put (roll-Doing d) ≡ with_doing_places put (map-Doing Doing Doing (replaced_doing put) d)
+at_doing put = fold-roll-Doing Doing (with_doing_places put)
 
 replaced-Print : (put : Place → Place) (place : Place) (items : List Printed) → replaced_doing put (doing.Print place items) ≡ doing.Print (put place) (map (replaced_printed put) items)
 replaced-Print put place items = ap (replaced_doing put) (sym (doing.rolls-Print place items)) ∙ at_doing put (Doing-F.Print place items)

@@ -15,20 +15,20 @@ use Rattle.zim_tree.specs.declared.expr.Index.{Index, fold-roll-Index}
 use Rattle.zim_tree.specs.declared.expr.Body.{Body, Body-F, roll-Body, map-Body, fold-roll-Body}
 use Rattle.zim_tree.specs.declared.expr.Body.TheVariants.{Empty, Members, Tuples, Those, Span, rolls-Empty, rolls-Members, rolls-Tuples, rolls-Those, rolls-Span}
 use Rattle.zim_tree.specs.Trees.{angle_of, index_of}
-use Rattle.zim_tree.specs.Spelling.{Tokens, expr_step, angle_step, index_step, body_step, spelling, angle_spelling, index_spelling, body_spelling, a_word, a_sign, with_commas, sign_of, separator, marks, operations, relations, conjuncts, disjuncts, exponent_sign, else_part, by_part, condition}
+use Rattle.zim_tree.specs.Spelling.{Tokens, expr_spelled, angle_spelled, index_spelled, body_spelled, spelling, angle_spelling, index_spelling, body_spelling, a_word, a_sign, with_commas, sign_of, separator, marks, operations, relations, conjuncts, disjuncts, exponent_sign_spelled, else_part, by_part, condition}
 
-abbrev at_expr : (d : Expr-F Body Expr Angle Index) → spelling (roll-Expr d) ≡ expr_step (map-Expr Body Expr Angle Index Tokens Tokens Tokens Tokens body_spelling spelling angle_spelling index_spelling d)
-at_expr = fold-roll-Expr Tokens Tokens Tokens Tokens body_step expr_step angle_step index_step
+abbrev at_expr : (d : Expr-F Body Expr Angle Index) → spelling (roll-Expr d) ≡ expr_spelled (map-Expr Body Expr Angle Index Tokens Tokens Tokens Tokens body_spelling spelling angle_spelling index_spelling d)
+at_expr = fold-roll-Expr Tokens Tokens Tokens Tokens body_spelled expr_spelled angle_spelled index_spelled
 
-abbrev at_body : (d : Body-F Body Expr Angle Index) → body_spelling (roll-Body d) ≡ body_step (map-Body Body Expr Angle Index Tokens Tokens Tokens Tokens body_spelling spelling angle_spelling index_spelling d)
-at_body = fold-roll-Body Tokens Tokens Tokens Tokens body_step expr_step angle_step index_step
+abbrev at_body : (d : Body-F Body Expr Angle Index) → body_spelling (roll-Body d) ≡ body_spelled (map-Body Body Expr Angle Index Tokens Tokens Tokens Tokens body_spelling spelling angle_spelling index_spelling d)
+at_body = fold-roll-Body Tokens Tokens Tokens Tokens body_spelled expr_spelled angle_spelled index_spelled
 
 pub spelling-angle : (place : Place) (items : List Expr) → angle_spelling (angle_of place items) ≡ a_sign SLess ++ (with_commas (map spelling items) ++ a_sign SGreater)
-spelling-angle place items = fold-roll-Angle Tokens Tokens Tokens Tokens body_step expr_step angle_step index_step (record { place = place; items = items })
+spelling-angle place items = fold-roll-Angle Tokens Tokens Tokens Tokens body_spelled expr_spelled angle_spelled index_spelled (record { place = place; items = items })
 
 pub spelling-index : (place : Place) (tuple : Angle) (set : Expr) (cond : Option (Bool × Expr)) → index_spelling (index_of place tuple set cond) ≡ angle_spelling tuple ++ (a_word WIn ++ (spelling set ++ condition (option_map (λ (c : Bool × Expr). (c.0, spelling c.1)) cond)))
-spelling-index place tuple set None = fold-roll-Index Tokens Tokens Tokens Tokens body_step expr_step angle_step index_step (record { place = place; tuple = tuple; set = set; cond = None })
-spelling-index place tuple set (Some c) = fold-roll-Index Tokens Tokens Tokens Tokens body_step expr_step angle_step index_step (record { place = place; tuple = tuple; set = set; cond = Some c })
+spelling-index place tuple set None = fold-roll-Index Tokens Tokens Tokens Tokens body_spelled expr_spelled angle_spelled index_spelled (record { place = place; tuple = tuple; set = set; cond = None })
+spelling-index place tuple set (Some c) = fold-roll-Index Tokens Tokens Tokens Tokens body_spelled expr_spelled angle_spelled index_spelled (record { place = place; tuple = tuple; set = set; cond = Some c })
 
 pub spelling-Number : (place : Place) (digits : List ℕ) → spelling (Number place digits) ≡ number_token digits ∷ []
 spelling-Number place digits = ap spelling (sym (rolls-Number place digits)) ∙ at_expr (Expr-F.Number place digits)
@@ -70,7 +70,7 @@ spelling-If place vif test branch (Some otherwise) = ap spelling (sym (rolls-If 
 pub spelling-Factorial : (operand : Expr) (places : List Place) → spelling (Factorial operand places) ≡ (spelling operand) ++ marks places
 spelling-Factorial operand places = ap spelling (sym (rolls-Factorial operand places)) ∙ at_expr (Expr-F.Factorial operand places)
 
-pub spelling-Power : (place : Place) (sign : Sign) (base : Expr) (signed : Option (Place × Bool)) (exponent : Expr) → spelling (Power place sign base signed exponent) ≡ (spelling base) ++ (a_sign sign ++ (exponent_sign signed ++ (spelling exponent)))
+pub spelling-Power : (place : Place) (sign : Sign) (base : Expr) (signed : Option (Place × Bool)) (exponent : Expr) → spelling (Power place sign base signed exponent) ≡ (spelling base) ++ (a_sign sign ++ (exponent_sign_spelled signed ++ (spelling exponent)))
 spelling-Power place sign base signed exponent = ap spelling (sym (rolls-Power place sign base signed exponent)) ∙ at_expr (Expr-F.Power place sign base signed exponent)
 
 pub spelling-Signed : (place : Place) (minus : Bool) (operand : Expr) → spelling (Signed place minus operand) ≡ sign_of minus ++ (spelling operand)

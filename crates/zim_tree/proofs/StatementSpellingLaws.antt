@@ -22,7 +22,7 @@ use Rattle.zim_tree.specs.declared.stmt.Doing.TheVariants.{Print, Check, Forall,
 use Rattle.zim_tree.specs.declared.stmt.Printed.{Printed}
 use Rattle.zim_tree.specs.StatementGrammar.{ReadsOptions, no_option, an_option, ReadsReading, a_reading, ReadsEntries, the_last_entry, one_more_entry, ReadsRows, the_last_row, one_more_row, ReadsTable, a_table, ReadsGiven, not_given, is_given, ReadsSetSide, a_set, a_set_read, a_family, a_set_for_each, sets_listed, ReadsParSide, a_value, a_value_read, a_value_for_each, values_listed, values_in_table, values_read, the_default, ReadsBracket, a_bracket_loop, a_bracket_over, ReadsBrackets, no_bracket, a_bracket, ReadsSetBrackets, filled_or_none, empty_brackets, ReadsKind, no_kind, a_kind, ReadsLimits, no_limit, a_limit, ReadsPrinted, a_printed_value, a_printed_tuple, ReadsPrintedList, the_last_printed, one_more_printed, ReadsDoing, a_print, a_check, for_each, ReadsNames, the_last_name, one_more_name, ReadsParameters, no_parameter, the_parameters, ReadsShape, a_set_statement, a_param_statement, a_var_statement, a_goal_statement, a_subto_statement, a_definition, a_do_statement, ReadsStatement, a_statement}
 use Rattle.zim_tree.specs.Spelling.{Tokens, with_commas, after_commas}
-use Rattle.zim_tree.specs.StatementSpelling.{bracket_spelling, brackets_spelling, option_spelling, reading_spelling, entry_spelling, entries_spelling, row_spelling, table_spelling, given_spelling, set_side_spelling, par_side_spelling, limit_spelling, kind_spelling, printed_spelling, doing_step, doing_spelling, parameter_spelling, shape_spelling, spelled_of}
+use Rattle.zim_tree.specs.StatementSpelling.{bracket_spelling, brackets_spelling, option_spelling, reading_spelling, entry_spelling, entries_spelling, row_spelling, table_spelling, given_spelling, set_side_spelling, par_side_spelling, limit_spelling, kind_spelling, printed_spelling, doing_spelled, doing_spelling, parameter_spelling, shape_spelling, spelled_of}
 use Rattle.zim_tree.proofs.SpellingLaws.{spelling-Func}
 use Rattle.zim_tree.proofs.DerivationSpellingLaws.{tokens, tokens-append, reads-spelling, list-spelling, tuple-spelling, index-spelling}
 
@@ -103,17 +103,17 @@ printed_list-spelling : {ts : List Placed} {items : List Printed} → ReadsPrint
 printed_list-spelling (the_last_printed d) = simp (append-nil, printed-spelling d)
 printed_list-spelling (one_more_printed p d e) = rw (← comma_before_printed e) (simp (tokens-append, printed-spelling d, printed_list-spelling e))
 
-at_doing : (d : Doing-F Doing) → doing_spelling (roll-Doing d) ≡ doing_step (map-Doing Doing Tokens doing_spelling d)
-at_doing = fold-roll-Doing Tokens doing_step
+at_doing : (d : Doing-F Doing) → doing_spelling (roll-Doing d) ≡ doing_spelled (map-Doing Doing Tokens doing_spelling d)
+at_doing = fold-roll-Doing Tokens doing_spelled
 
-spelling-Print : (place : Place) (items : List Printed) → doing_spelling (Print place items) ≡ doing_step (Doing-F.Print place items)
+spelling-Print : (place : Place) (items : List Printed) → doing_spelling (Print place items) ≡ doing_spelled (Doing-F.Print place items)
 spelling-Print place items = ap doing_spelling (sym (rolls-Print place items)) ∙ at_doing (Doing-F.Print place items)
 
-spelling-Check : (place : Place) (test : Expr) → doing_spelling (Check place test) ≡ doing_step (Doing-F.Check place test)
+spelling-Check : (place : Place) (test : Expr) → doing_spelling (Check place test) ≡ doing_spelled (Doing-F.Check place test)
 spelling-Check place test = ap doing_spelling (sym (rolls-Check place test)) ∙ at_doing (Doing-F.Check place test)
 
 spelling-Forall : (place : Place) (index : Index) (with_do : Bool) (inside : Doing) →
-    doing_spelling (Forall place index with_do inside) ≡ doing_step (Doing-F.Forall place index with_do (doing_spelling inside))
+    doing_spelling (Forall place index with_do inside) ≡ doing_spelled (Doing-F.Forall place index with_do (doing_spelling inside))
 spelling-Forall place index with_do inside =
     ap doing_spelling (sym (rolls-Forall place index with_do inside)) ∙ at_doing (Doing-F.Forall place index with_do inside)
 

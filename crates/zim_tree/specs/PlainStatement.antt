@@ -77,14 +77,14 @@ replaced_printed put (printed.Value value) = printed.Value (replaced put value)
 replaced_printed put (printed.Tuple tuple) = printed.Tuple (replaced_angle put tuple)
 
 -- what a `do` does, where the places of what it does for each choice are mapped already
-abbrev pub doing_step : (Place → Place) → Doing-F Doing → Doing
-doing_step put (Doing-F.Print place items) = doing.Print (put place) (map (replaced_printed put) items)
-doing_step put (Doing-F.Check place test) = doing.Check (put place) (replaced put test)
-doing_step put (Doing-F.Forall place index with_do inside) = doing.Forall (put place) (replaced_index put index) with_do inside
+abbrev pub with_doing_places : (Place → Place) → Doing-F Doing → Doing
+with_doing_places put (Doing-F.Print place items) = doing.Print (put place) (map (replaced_printed put) items)
+with_doing_places put (Doing-F.Check place test) = doing.Check (put place) (replaced put test)
+with_doing_places put (Doing-F.Forall place index with_do inside) = doing.Forall (put place) (replaced_index put index) with_do inside
 
 -- what a `do` does
 abbrev pub replaced_doing : (Place → Place) → Doing → Doing
-replaced_doing put = fold-Doing Doing (doing_step put)
+replaced_doing put = fold-Doing Doing (with_doing_places put)
 
 -- a parameter of a function
 abbrev pub replaced_parameter : (Place → Place) → Place × List ℕ → Place × List ℕ

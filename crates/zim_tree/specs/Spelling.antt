@@ -75,9 +75,9 @@ abbrev pub disjuncts : List (Place × Bool × Tokens) → Tokens
 disjuncts = flat_map (λ x. word_token (if x.1 then WXor else WOr) ∷ x.2)
 
 -- the sign of an exponent, if it has one
-abbrev pub exponent_sign : Option (Place × Bool) → Tokens
-exponent_sign None = []
-exponent_sign (Some s) = sign_of s.1
+abbrev pub exponent_sign_spelled : Option (Place × Bool) → Tokens
+exponent_sign_spelled None = []
+exponent_sign_spelled (Some s) = sign_of s.1
 
 -- `else` and a part, if there is one
 abbrev pub else_part : Option Tokens → Tokens
@@ -95,66 +95,66 @@ condition None = []
 condition (Some c) = (if c.0 then sign_token SBar else word_token WWith) ∷ c.1
 
 -- an expression of parts that are spelled already
-abbrev pub expr_step : Expr-F Tokens Tokens Tokens Tokens → Tokens
-expr_step (Expr-F.Number place digits) = number_token digits ∷ []
-expr_step (Expr-F.Text place text double) = text_token text double ∷ []
-expr_step (Expr-F.Truth place truth) = a_word (if truth then WTrue else WFalse)
-expr_step (Expr-F.Infinity place) = a_word WInfinity
-expr_step (Expr-F.Name place name) = name_token name ∷ []
-expr_step (Expr-F.Item place name index) = name_token name ∷ (a_sign SLeftBracket ++ (with_commas index ++ a_sign SRightBracket))
-expr_step (Expr-F.Call place name given) = name_token name ∷ (a_sign SLeftParen ++ (with_commas given ++ a_sign SRightParen))
-expr_step (Expr-F.Func place word given) = word_token word ∷ (a_sign SLeftParen ++ (with_commas given ++ a_sign SRightParen))
-expr_step (Expr-F.Proj place set positions) =
+abbrev pub expr_spelled : Expr-F Tokens Tokens Tokens Tokens → Tokens
+expr_spelled (Expr-F.Number place digits) = number_token digits ∷ []
+expr_spelled (Expr-F.Text place text double) = text_token text double ∷ []
+expr_spelled (Expr-F.Truth place truth) = a_word (if truth then WTrue else WFalse)
+expr_spelled (Expr-F.Infinity place) = a_word WInfinity
+expr_spelled (Expr-F.Name place name) = name_token name ∷ []
+expr_spelled (Expr-F.Item place name index) = name_token name ∷ (a_sign SLeftBracket ++ (with_commas index ++ a_sign SRightBracket))
+expr_spelled (Expr-F.Call place name given) = name_token name ∷ (a_sign SLeftParen ++ (with_commas given ++ a_sign SRightParen))
+expr_spelled (Expr-F.Func place word given) = word_token word ∷ (a_sign SLeftParen ++ (with_commas given ++ a_sign SRightParen))
+expr_spelled (Expr-F.Proj place set positions) =
     a_word WProj ++ (a_sign SLeftParen ++ (set ++ (a_sign SComma ++ (positions ++ a_sign SRightParen))))
-expr_step (Expr-F.Paren place inner) = a_sign SLeftParen ++ (inner ++ a_sign SRightParen)
-expr_step (Expr-F.Braces place body) = a_sign SLeftBrace ++ (body ++ a_sign SRightBrace)
-expr_step (Expr-F.If place vif test branch otherwise) =
+expr_spelled (Expr-F.Paren place inner) = a_sign SLeftParen ++ (inner ++ a_sign SRightParen)
+expr_spelled (Expr-F.Braces place body) = a_sign SLeftBrace ++ (body ++ a_sign SRightBrace)
+expr_spelled (Expr-F.If place vif test branch otherwise) =
     a_word (if vif then WVif else WIf) ++ (test ++ (a_word WThen ++ (branch ++ (else_part otherwise ++ a_word WEnd))))
-expr_step (Expr-F.Factorial operand places) = operand ++ marks places
-expr_step (Expr-F.Power place sign base signed exponent) = base ++ (a_sign sign ++ (exponent_sign signed ++ exponent))
-expr_step (Expr-F.Signed place minus operand) = sign_of minus ++ operand
-expr_step (Expr-F.Big place word index with_do operand) = a_word word ++ (index ++ (separator with_do ++ operand))
-expr_step (Expr-F.Times first others) = first ++ operations others
-expr_step (Expr-F.Plus first others) = first ++ operations others
-expr_step (Expr-F.Compare first others) = first ++ relations others
-expr_step (Expr-F.Member place tuple set) = tuple ++ (a_word WIn ++ set)
-expr_step (Expr-F.Not place operand) = a_word WNot ++ operand
-expr_step (Expr-F.And first others) = first ++ conjuncts others
-expr_step (Expr-F.Or first others) = first ++ disjuncts others
-expr_step (Expr-F.Forall place index with_do body) = a_word WForall ++ (index ++ (separator with_do ++ body))
+expr_spelled (Expr-F.Factorial operand places) = operand ++ marks places
+expr_spelled (Expr-F.Power place sign base signed exponent) = base ++ (a_sign sign ++ (exponent_sign_spelled signed ++ exponent))
+expr_spelled (Expr-F.Signed place minus operand) = sign_of minus ++ operand
+expr_spelled (Expr-F.Big place word index with_do operand) = a_word word ++ (index ++ (separator with_do ++ operand))
+expr_spelled (Expr-F.Times first others) = first ++ operations others
+expr_spelled (Expr-F.Plus first others) = first ++ operations others
+expr_spelled (Expr-F.Compare first others) = first ++ relations others
+expr_spelled (Expr-F.Member place tuple set) = tuple ++ (a_word WIn ++ set)
+expr_spelled (Expr-F.Not place operand) = a_word WNot ++ operand
+expr_spelled (Expr-F.And first others) = first ++ conjuncts others
+expr_spelled (Expr-F.Or first others) = first ++ disjuncts others
+expr_spelled (Expr-F.Forall place index with_do body) = a_word WForall ++ (index ++ (separator with_do ++ body))
 
 -- a tuple of parts that are spelled already
-abbrev pub angle_step : Angle-F Tokens Tokens Tokens Tokens → Tokens
-angle_step tuple = a_sign SLess ++ (with_commas tuple.items ++ a_sign SGreater)
+abbrev pub angle_spelled : Angle-F Tokens Tokens Tokens Tokens → Tokens
+angle_spelled tuple = a_sign SLess ++ (with_commas tuple.items ++ a_sign SGreater)
 
 -- an index of parts that are spelled already
-abbrev pub index_step : Index-F Tokens Tokens Tokens Tokens → Tokens
-index_step index = index.tuple ++ (a_word WIn ++ (index.set ++ condition index.cond))
+abbrev pub index_spelled : Index-F Tokens Tokens Tokens Tokens → Tokens
+index_spelled index = index.tuple ++ (a_word WIn ++ (index.set ++ condition index.cond))
 
 -- what stands in braces, of parts that are spelled already
-abbrev pub body_step : Body-F Tokens Tokens Tokens Tokens → Tokens
-body_step Body-F.Empty = []
-body_step (Body-F.Members members) = with_commas members
-body_step (Body-F.Tuples tuples) = with_commas tuples
-body_step (Body-F.Those index) = index
-body_step (Body-F.Span from with_to to by) =
+abbrev pub body_spelled : Body-F Tokens Tokens Tokens Tokens → Tokens
+body_spelled Body-F.Empty = []
+body_spelled (Body-F.Members members) = with_commas members
+body_spelled (Body-F.Tuples tuples) = with_commas tuples
+body_spelled (Body-F.Those index) = index
+body_spelled (Body-F.Span from with_to to by) =
     from ++ ((if with_to then word_token WTo else sign_token SDots) ∷ (to ++ by_part by))
 
 -- how an expression is spelled
 abbrev pub spelling : Expr → Tokens
-spelling = fold-Expr Tokens Tokens Tokens Tokens body_step expr_step angle_step index_step
+spelling = fold-Expr Tokens Tokens Tokens Tokens body_spelled expr_spelled angle_spelled index_spelled
 
 -- how a tuple is spelled
 abbrev pub angle_spelling : Angle → Tokens
-angle_spelling = fold-Angle Tokens Tokens Tokens Tokens body_step expr_step angle_step index_step
+angle_spelling = fold-Angle Tokens Tokens Tokens Tokens body_spelled expr_spelled angle_spelled index_spelled
 
 -- how an index is spelled
 abbrev pub index_spelling : Index → Tokens
-index_spelling = fold-Index Tokens Tokens Tokens Tokens body_step expr_step angle_step index_step
+index_spelling = fold-Index Tokens Tokens Tokens Tokens body_spelled expr_spelled angle_spelled index_spelled
 
 -- how what stands in braces is spelled
 abbrev pub body_spelling : Body → Tokens
-body_spelling = fold-Body Tokens Tokens Tokens Tokens body_step expr_step angle_step index_step
+body_spelling = fold-Body Tokens Tokens Tokens Tokens body_spelled expr_spelled angle_spelled index_spelled
 
 -- how operators with the operands behind them are spelled
 abbrev pub operations_of : List (Place × Token × Expr) → Tokens

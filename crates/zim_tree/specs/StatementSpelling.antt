@@ -98,14 +98,14 @@ printed_spelling (Value value) = spelling value
 printed_spelling (Tuple tuple) = angle_spelling tuple
 
 -- what a `do` does, where what it does for each choice is spelled already
-abbrev pub doing_step : Doing-F Tokens → Tokens
-doing_step (Doing-F.Print place items) = a_word WPrint ++ with_commas (map printed_spelling items)
-doing_step (Doing-F.Check place test) = a_word WCheck ++ spelling test
-doing_step (Doing-F.Forall place index with_do body) = a_word WForall ++ (index_spelling index ++ (separator with_do ++ body))
+abbrev pub doing_spelled : Doing-F Tokens → Tokens
+doing_spelled (Doing-F.Print place items) = a_word WPrint ++ with_commas (map printed_spelling items)
+doing_spelled (Doing-F.Check place test) = a_word WCheck ++ spelling test
+doing_spelled (Doing-F.Forall place index with_do body) = a_word WForall ++ (index_spelling index ++ (separator with_do ++ body))
 
 -- what a `do` does
 abbrev pub doing_spelling : Doing → Tokens
-doing_spelling = fold-Doing Tokens doing_step
+doing_spelling = fold-Doing Tokens doing_spelled
 
 -- one name
 abbrev pub a_name : List ℕ → Tokens

@@ -9,13 +9,13 @@ use Rattle.zim_tree.specs.declared.stmt.Doing.TheVariants.{Forall, rolls-Forall}
 use Rattle.zim_typed.specs.Scope.{Names, Scope}
 use Rattle.zim_sort.specs.Around.{names_in}
 use Rattle.zim_sort.specs.Faults.{first_of_faults}
-use Rattle.zim_sort.specs.StatementFaults.{faults_in_doing, doing_faults, index_faults, index_names}
+use Rattle.zim_sort.specs.StatementFaults.{faults_in_doing, doing_faults, statement_index_faults, index_names}
 use Rattle.zim_sort.proofs.FirstLemmas.{of_two}
 use Rattle.zim_sort.proofs.IndexLemmas.{behind_names}
 use Rattle.zim_sort.proofs.statements.+doing_fault.Goals as goal
 
 opens-Forall : (scope : Scope) (names : Names) (place : Place) (index : Index) (with_do : Bool) (inside : Doing) →
-    doing_faults scope (Forall place index with_do inside) names ≡ index_faults scope names index ++ doing_faults scope inside (index_names scope names index)
+    doing_faults scope (Forall place index with_do inside) names ≡ statement_index_faults scope names index ++ doing_faults scope inside (index_names scope names index)
 opens-Forall scope names place index with_do inside =
     ap (λ (f : Names → List Fault). f names) (ap (doing_faults scope) (sym (rolls-Forall place index with_do inside)) ∙ fold-roll-Doing (Names → List Fault) (faults_in_doing scope) (Doing-F.Forall place index with_do inside))
 
