@@ -67,10 +67,11 @@ end_from end sides sum (t ∷ ts) =
 unfoldable pub end_answer : End → List Sides → List Term → Result (Option Rational) Past
 end_answer end sides terms = cond (has_end end sides terms) (end_from end sides zero terms) (Ok None)
 
--- the least number of the terms, and the greatest
+-- the least number of the terms
 abbrev pub least_answer : List Sides → List Term → Result (Option Rational) Past
 least_answer sides terms = end_answer Least sides terms
 
+-- and the greatest
 abbrev pub greatest_answer : List Sides → List Term → Result (Option Rational) Past
 greatest_answer sides terms = end_answer Greatest sides terms
 

@@ -61,10 +61,10 @@ is_comment WComment = true
 is_comment _ = false
 
 -- each option stands at most once
-abbrev pub AtMostOnce : List (Place × Word × Expr) → Type 0
-AtMostOnce options = (count_by (λ (x : Place × Word × Expr). is_skip x.1) options ≤ 1)
-    × (count_by (λ (x : Place × Word × Expr). is_use x.1) options ≤ 1)
-    × (count_by (λ (x : Place × Word × Expr). is_comment x.1) options ≤ 1)
+abbrev pub AtMostOnce : {A : Type 0} → List (Place × Word × A) → Type 0
+AtMostOnce {A} options = (count_by (λ (x : Place × Word × A). is_skip x.1) options ≤ 1)
+    × (count_by (λ (x : Place × Word × A). is_use x.1) options ≤ 1)
+    × (count_by (λ (x : Place × Word × A). is_comment x.1) options ≤ 1)
 
 -- the tokens are options of `read`, each with its operand
 pub data ReadsOptions : List Placed → List (Place × Word × Expr) → Type 0 where
@@ -168,8 +168,12 @@ pub data ReadsLimits : List Placed → List Limit → Type 0 where
       ReadsLimits (placed p (limit_token lower) ∷ (ts ++ us)) (record { place = p; lower = lower; side = side } ∷ others)
 
 -- at most one bound from below and one from above, and none for a binary variable
+abbrev pub BoundedOnce : {A : Type 0} → (A → Bool) → Option Word → List A → Type 0
+BoundedOnce {A} from_below kind limits = (count_by from_below limits ≤ 1) × (count_by (λ (l : A). not (from_below l)) limits ≤ 1) × (kind ≡ Some WBinary → limits ≡ [])
+
+-- the bounds of a variable of this kind are so
 abbrev pub LimitsKept : Option Word → List Limit → Type 0
-LimitsKept kind limits = (count_by (λ (l : Limit). l.lower) limits ≤ 1) × (count_by (λ (l : Limit). not l.lower) limits ≤ 1) × (kind ≡ Some WBinary → limits ≡ [])
+LimitsKept = BoundedOnce (λ (l : Limit). l.lower)
 
 -- the tokens are something that is printed
 pub data ReadsPrinted : List Placed → Printed → Type 0 where

@@ -31,7 +31,7 @@ use Rattle.zim_typed.specs.declared.statement.TPrinted.{TPrinted}
 use Rattle.zim_typed.specs.Scope.{Names, Scope, kind_of_name, takes}
 use Rattle.zim_typed.specs.Constants.{one_const}
 use Rattle.zim_typed.specs.Statements.{IsBound, AreLimits, IsGiven, AreOptions, IsReading, AreEntries, AreRows, IsTable, IsBrackets, IsSetSide, IsParam, ArePrinted, IsDoing, IsShape, IsTyped, is_value, is_infinity, is_signed_infinity, is_chosen, no_limit, one_limit, not_given, is_given, no_option, one_option, is_reading, no_entry, one_entry, no_row, one_row, is_table, no_brackets, loop_brackets, set_brackets, set_value, set_read, set_family, set_for_each, sets_listed, param_value, param_read, param_for_each, params_listed, params_in_table, params_read, param_default, none_printed, value_printed, tuple_printed, do_print, do_check, do_forall, is_set, is_param, is_var, is_goal, is_subto, is_definition, is_do, is_typed}
-use Rattle.zim_typed.specs.SuitsStatement.{SuitsBound, LimitsSuit, SuitsGiven, OptionsSuit, AtMostOnce, SuitsReading, EntriesSuit, RowsSuit, SuitsTable, SuitsSet, SuitsParam, SuitsBrackets, LimitsKept, PrintedSuit, SuitsDoing, SuitsShape, SuitsStatement, suits_value, suits_infinity, suits_signed_infinity, suits_chosen, suits_no_limit, suits_one_limit, suits_not_given, suits_given, suits_no_option, suits_one_option, suits_reading, suits_no_entry, suits_one_entry, suits_no_row, suits_one_row, suits_table, suits_set_value, suits_set_read, suits_family, suits_set_for_each, suits_sets_listed, suits_param_value, suits_param_read, suits_param_for_each, suits_params_listed, suits_params_in_table, suits_params_read, suits_default, suits_no_brackets, suits_loop_brackets, suits_set_brackets, suits_none_printed, suits_value_printed, suits_tuple_printed, suits_print, suits_check, suits_do_forall, suits_set, suits_param, suits_var, suits_goal, suits_subto, suits_definition, suits_declaration, suits_do}
+use Rattle.zim_typed.specs.SuitsStatement.{SuitsBound, LimitsSuit, SuitsGiven, OptionsSuit, SuitsReading, EntriesSuit, RowsSuit, SuitsTable, SuitsSet, SuitsParam, SuitsBrackets, PrintedSuit, SuitsDoing, SuitsShape, SuitsStatement, suits_value, suits_infinity, suits_signed_infinity, suits_chosen, suits_no_limit, suits_one_limit, suits_not_given, suits_given, suits_no_option, suits_one_option, suits_reading, suits_no_entry, suits_one_entry, suits_no_row, suits_one_row, suits_table, suits_set_value, suits_set_read, suits_family, suits_set_for_each, suits_sets_listed, suits_param_value, suits_param_read, suits_param_for_each, suits_params_listed, suits_params_in_table, suits_params_read, suits_default, suits_no_brackets, suits_loop_brackets, suits_set_brackets, suits_none_printed, suits_value_printed, suits_tuple_printed, suits_print, suits_check, suits_do_forall, suits_set, suits_param, suits_var, suits_goal, suits_subto, suits_definition, suits_declaration, suits_do}
 use Rattle.zim_typed.proofs.ConstantLemmas.{as_many, const_suits, consts_suit, tuple_suits, loop_suits}
 use Rattle.zim_typed.proofs.TermLemmas.{term_suits, con_suits}
 
@@ -61,7 +61,7 @@ option_count test n no_option = refl
 option_count test n (one_option p word c cs) = option_count test (n + cond (test word) 1 0) cs
 
 -- each option stands at most once
-once : {scope : Scope} {names : Names} {options : List (Place × Word × Expr)} {cs : List (Place × Word × Const)} → AreOptions scope names options cs → tree.AtMostOnce options → AtMostOnce cs
+once : {scope : Scope} {names : Names} {options : List (Place × Word × Expr)} {cs : List (Place × Word × Const)} → AreOptions scope names options cs → tree.AtMostOnce options → tree.AtMostOnce cs
 once cs kept =
     (subst (λ n. n ≤ 1) (option_count tree.is_skip 0 cs) kept.0, subst (λ n. n ≤ 1) (option_count tree.is_use 0 cs) kept.1, subst (λ n. n ≤ 1) (option_count tree.is_comment 0 cs) kept.2)
 
@@ -118,7 +118,7 @@ none_limited : {scope : Scope} {names : Names} {limits : List Limit} {cs : List 
 none_limited no_limit none = refl
 none_limited (one_limit p lower side limits) none = grind arith
 
-kept : {scope : Scope} {names : Names} {kind : Option Word} {limits : List Limit} {cs : List TLimit} → AreLimits scope names limits cs → tree.LimitsKept kind limits → LimitsKept kind cs
+kept : {scope : Scope} {names : Names} {kind : Option Word} {limits : List Limit} {cs : List TLimit} → AreLimits scope names limits cs → tree.LimitsKept kind limits → tree.BoundedOnce (λ (l : TLimit). l.lower) kind cs
 kept cs h =
     (subst (λ n. n ≤ 1) (limit_count (λ lower. lower) 0 cs) h.0, subst (λ n. n ≤ 1) (limit_count (λ lower. not lower) 0 cs) h.1, λ is. none_limited cs (h.2 is))
 

@@ -1,12 +1,11 @@
 -- Which typed statements suit the scope of the statements before them: their trees suit it, they keep the rules of statements, and the name that
 -- they declare is new.
-use Rattle.std.specs.Prelude.{ℕ, ◌≡◌, ◌≤◌, List, [], ◌∷◌, length, map, count_by, Bool, true, not, Option, Some, None}
+use Rattle.std.specs.Prelude.{ℕ, ◌≡◌, List, [], ◌∷◌, length, map, Bool, true, Option, Some, None}
 use Rattle.zim_fault.specs.declared.faults.Place.{Place}
 use Rattle.zim_fault.specs.declared.words.Word.{Word}
-use Rattle.zim_fault.specs.declared.words.Word.TheVariants.{WBinary}
 use Rattle.zim_tree.specs.declared.classes.Class.TheVariants as class
 use Rattle.zim_tree.specs.Classes.{word_class}
-use Rattle.zim_tree.specs.StatementGrammar.{is_option, is_skip, is_use, is_comment, is_definition}
+use Rattle.zim_tree.specs.StatementGrammar.{is_option, AtMostOnce, BoundedOnce, is_definition}
 use Rattle.zim_tree.specs.StatementMade.{MadeKind}
 use Rattle.zim_typed.specs.declared.constant.Const.{Const}
 use Rattle.zim_typed.specs.declared.constant.Const.TheVariants as const
@@ -57,12 +56,6 @@ pub data OptionsSuit (scope : Scope) : Names → List (Place × Word × Const) �
   suits_no_option : {names : Names} → OptionsSuit scope names []
   suits_one_option : {names : Names} (p : Place) {word : Word} {c : Const} {options : List (Place × Word × Const)} → is_option word ≡ true →
       SuitsConst scope names c → OptionsSuit scope names options → OptionsSuit scope names ((p, word, c) ∷ options)
-
--- each option of a `read` stands at most once
-abbrev pub AtMostOnce : List (Place × Word × Const) → Type 0
-AtMostOnce options = (count_by (λ (x : Place × Word × Const). is_skip x.1) options ≤ 1)
-    × (count_by (λ (x : Place × Word × Const). is_use x.1) options ≤ 1)
-    × (count_by (λ (x : Place × Word × Const). is_comment x.1) options ≤ 1)
 
 -- a `read` that suits
 pub data SuitsReading (scope : Scope) : Names → TReading → Type 0 where
@@ -121,10 +114,6 @@ pub data SuitsBrackets (scope : Scope) : Option TBracket → Names → Type 0 wh
   suits_loop_brackets : {names : Names} {index : Loop} → SuitsLoop scope [] index names → SuitsBrackets scope (Some (bracket.Loop index)) names
   suits_set_brackets : {over : Const} → SuitsConst scope [] over → SuitsBrackets scope (Some (bracket.Over over)) []
 
--- at most one bound from below and one from above, and none for a binary variable
-abbrev pub LimitsKept : Option Word → List TLimit → Type 0
-LimitsKept kind limits = (count_by (λ (l : TLimit). l.lower) limits ≤ 1) × (count_by (λ (l : TLimit). not l.lower) limits ≤ 1) × (kind ≡ Some WBinary → limits ≡ [])
-
 -- what is printed suits
 pub data PrintedSuit (scope : Scope) : Names → List TPrinted → Type 0 where
   suits_none_printed : {names : Names} → PrintedSuit scope names []
@@ -145,7 +134,7 @@ pub data SuitsShape (scope : Scope) : TShape → Type 0 where
   suits_set : {brackets : Option TBracket} {side : TSetSide} → SuitsSet scope brackets side → SuitsShape scope (shape.Set brackets side)
   suits_param : {brackets : Option TBracket} {side : TParSide} → SuitsParam scope brackets side → SuitsShape scope (shape.Param brackets side)
   suits_var : {names : Names} {brackets : Option TBracket} {kind : Option Word} {limits : List TLimit} {priority startval : Option (Place × Const)} →
-      LimitsKept kind limits → SuitsBrackets scope brackets names → MadeKind kind → LimitsSuit scope names limits → SuitsGiven scope names priority →
+      BoundedOnce (λ (l : TLimit). l.lower) kind limits → SuitsBrackets scope brackets names → MadeKind kind → LimitsSuit scope names limits → SuitsGiven scope names priority →
       SuitsGiven scope names startval → SuitsShape scope (shape.Var brackets kind limits priority startval)
   suits_goal : (maximize : Bool) {objective : Term} → SuitsTerm scope [] objective → SuitsShape scope (shape.Goal maximize objective)
   suits_subto : {constraint : Con} → SuitsCon scope [] constraint → SuitsShape scope (shape.Subto constraint)
