@@ -1,7 +1,0 @@
--- Its items and its values.
-use Rattle.std.proofs.Common.{refl}
-use Rattle.zim_sort.proofs.CallsLemmas.{greater_of}
-use Rattle.zim_sort.proofs.deep.row_calls.Goals as goal
-
-pub returns : goal.returns
-returns c = greater_of c.max.ensures (simp c.as_slice.ensures at c.all_calls.ensures) (simp c.as_slice-2.ensures at c.all_calls-2.ensures) refl

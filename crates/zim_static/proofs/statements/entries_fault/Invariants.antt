@@ -1,0 +1,11 @@
+-- The first fault so far, or else that of what is left, is the first of all.
+use Rattle.std.proofs.Common.{◌≡◌, drop}
+use Rattle.std.specs.Option.{option_or}
+use Rattle.zim_static.specs.Around.{names_in}
+use Rattle.zim_static.specs.Faults.{first_of_faults}
+use Rattle.zim_static.specs.StatementFaults.{entries_faults}
+use Rattle.zim_static.proofs.statements.entries_fault.Given as goal
+
+abbrev pub invariant-loop-tuple : goal.invariant-loop-tuple
+invariant-loop-tuple l =
+    option_or l.fault (first_of_faults (entries_faults l.scope (names_in l.scope l.around) (drop l.tuple-index l.entries))) ≡ first_of_faults (entries_faults l.scope (names_in l.scope l.around) l.entries)
