@@ -1,0 +1,10 @@
+pub mod GuardLaws
+pub mod ColumnPointLaws
+pub mod RowLaws
+pub mod GuardedRowLaws
+pub mod ComparisonLaws
+pub mod ConstraintLaws
+pub mod OverConstraintLaws
+pub mod ConstraintWeightLemmas
+pub mod ConstraintCallLemmas
+pub mod RowCallLemmas

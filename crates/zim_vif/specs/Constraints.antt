@@ -1,5 +1,5 @@
 -- Constraints as rows, under a guard: what a ground constraint makes, one step after another.
-use Rattle.std.specs.Prelude.{ℕ, Bool, cond, List, [], ◌∷◌, map, Option, Some, None, Result, Ok, Err}
+use Rattle.std.specs.Prelude.{ℕ, cond, List, [], ◌∷◌, map, Option, Some, None, Result, Ok}
 use Rattle.zim_answer.specs.Answer.{◌>>=◌}
 use Rattle.zim_fault.specs.declared.faults.Fault.{Fault}
 use Rattle.zim_fault.specs.declared.faults.Place.{Place}
@@ -11,7 +11,7 @@ use Rattle.zim_fraction.specs.declared.fault.Past.{Past}
 use Rattle.zim_linear.specs.Forms.{LinearForm, form_of}
 use Rattle.zim_linear.specs.declared.sides.Sides.{Sides}
 use Rattle.zim_formula.specs.declared.ground.GCon.{GCon, GCon-F, fold-GCon}
-use Rattle.zim_forms.specs.Exact.{Exact, ◌⊟◌, of_two}
+use Rattle.zim_forms.specs.Exact.{◌⊟◌, of_two}
 use Rattle.zim_forms.specs.FormEnds.{both_ends}
 use Rattle.zim_rows.specs.declared.rows.GivenRow.{GivenRow}
 use Rattle.zim_rows.specs.declared.rows.RowFrom.{RowFrom}
@@ -20,7 +20,7 @@ use Rattle.zim_rows.specs.declared.rows.Sense.TheVariants as sense
 use Rattle.zim_rows.specs.System.{LinearSystem, row_of}
 use Rattle.zim_rows.specs.Steps.{Encoding, ◌then◌, gives}
 use Rattle.zim_logic_rows.specs.declared.Literal.{Literal}
-use Rattle.zim_logic_rows.specs.LogicRows.{compared_row, past_at, lifted, with_rows}
+use Rattle.zim_logic_rows.specs.LogicRows.{compared_row, past_at, with_rows}
 use Rattle.zim_logic_rows.specs.Literals.{negation, joined_column}
 use Rattle.zim_logic_rows.specs.Guards.{needed_end, under_most, under_least, under_both}
 use Rattle.zim_vabs.specs.Terms.{from_place, makes_term}

@@ -1,1 +1,4 @@
 pub mod Constraints
+pub mod Meaning
+pub mod RowSteps
+pub mod ConstraintTurns
