@@ -6,8 +6,9 @@ decimals and of 100-bit numbers, beside the same loop over pairs of `i128` in Ru
 by `rustc -O`), and how many times as long ours takes. Each is done MILLIONS million times (20 if none is
 given; a twentieth of that but for small numbers), and the time of a run without operations is taken off.
 Both programs print a check of their results, and these must be equal. The second table has the time of a
-sum of 1,000, 10,000 and 100,000 forms of one column each, added to one form in column order. Times are
-those of the processor, so a busy machine disturbs them little.
+sum of 1,000, 10,000 and 100,000 forms of one column each, added to one form in column order, and of
+10,000, 100,000 and 1,000,000 whose columns come in a scattered order. Times are those of the processor, so
+a busy machine disturbs them little.
 """
 import os
 import pathlib
@@ -57,13 +58,15 @@ def numbers(other, millions):
 
 def forms():
     """Prints the table of sums."""
-    print(f"\n{'forms':>8} {'ms':>8} {'ns each':>8}")
+    print(f"\n{'columns':>9} {'forms':>9} {'ms':>8} {'ns each':>8}")
     _, idle = best(PROGRAM, "forms", "add", 0)
-    for count in [1_000, 10_000, 100_000]:
-        printed, seconds = best(PROGRAM, "forms", "add", count)
+    in_order = [("in order", "add", count) for count in [1_000, 10_000, 100_000]]
+    scattered = [("scattered", "gather", count) for count in [10_000, 100_000, 1_000_000]]
+    for columns, operation, count in in_order + scattered:
+        printed, seconds = best(PROGRAM, "forms", operation, count)
         if int(printed) != count:
             sys.exit(f"a sum of {count} columns has {int(printed)} terms")
-        print(f"{count:>8,} {(seconds - idle) * 1e3:>8.2f} {(seconds - idle) / count * 1e9:>8.0f}")
+        print(f"{columns:>9} {count:>9,} {(seconds - idle) * 1e3:>8.2f} {(seconds - idle) / count * 1e9:>8.0f}")
 
 
 def main():

@@ -3,13 +3,14 @@
 //! KIND is `small` (whole numbers up to a million), `short` (up to six decimals) or `wide` (100 bits over
 //! ten), OPERATION `add`, `mul` or `compare`, and COUNT how often it is done, in rounds of 1,000 pairs.
 //! It prints a check of the results, which another program can compute from the same pairs. `forms add
-//! COUNT` adds up COUNT forms of one column each, in column order, and prints how many terms there are.
+//! COUNT` adds up COUNT forms of one column each, in column order, and prints how many terms there are; `forms
+//! gather COUNT` does so with the columns in a scattered order.
 #![tactic(auto)]
 
 mod measured;
 mod operands;
 
-use measured::{compared, multiplied, summed, summed_forms};
+use measured::{compared, gathered_forms, multiplied, summed, summed_forms};
 use operands::{Kind, pairs};
 use std::env;
 use std::io::{self, ErrorKind};
@@ -38,7 +39,12 @@ fn main(rt: HostRuntime) -> io::Result<()> {
         "short" => Kind::Short,
         "wide" => Kind::Wide,
         "forms" => {
-            let Ok(terms) = summed_forms(alloc, count) else {
+            let sum = match operation.as_str() {
+                "add" => summed_forms(alloc, count),
+                "gather" => gathered_forms(alloc, count),
+                _ => return Err(refused()),
+            };
+            let Ok(terms) = sum else {
                 return Err(refused());
             };
             println!(rt; "{terms}")?;

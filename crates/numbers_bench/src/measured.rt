@@ -2,6 +2,7 @@
 use std::alloc::Global;
 use std::cmp::Ordering;
 use zim_fraction::{Fraction, Past, add, compare, mul};
+use zim_gathered::GatheredForm;
 use zim_linear::{Form, LinFault, add_to};
 
 fn shown(answer: Result<Fraction, Past>) -> i128 {
@@ -58,4 +59,19 @@ pub fn summed_forms(alloc: Global, count: u64) -> Result<usize, LinFault> {
         add_to(&mut total, &Form::column(alloc, column)?)?;
     }
     Ok(total.terms().len())
+}
+
+/// An odd number: what is multiplied by it, modulo 2^32, comes in a scattered order, and no number twice.
+const SCATTER: u32 = 2_654_435_761;
+
+/// The number of terms of the sum of `count` forms of one column each, added from the left, with the columns in a
+/// scattered order.
+pub fn gathered_forms(alloc: Global, count: u64) -> Result<usize, LinFault> {
+    let mut total = GatheredForm::of(alloc, Form::constant(alloc, Fraction::zero()));
+    let mut place: u32 = 0;
+    for _ in 0..count {
+        place = place.wrapping_add(1);
+        total.add(&Form::column(alloc, place.wrapping_mul(SCATTER))?)?;
+    }
+    Ok(total.into_form()?.terms().len())
 }

@@ -1,0 +1,3 @@
+pub mod ColumnLemmas
+pub mod TermLemmas
+pub mod SumLemmas
