@@ -1,5 +1,5 @@
 -- A list of definitions, each of which is kept under its own name.
-use Rattle.std.proofs.Common.{ℕ, ◌≡◌, Bool, cond, List, [], ◌∷◌, ◌++◌, None, Some, nat_eq, refl, ap, ap₂, ◌∙◌}
+use Rattle.std.proofs.Common.{ℕ, zero, suc, ◌≡◌, slice_get, option_map, Bool, cond, List, [], ◌∷◌, ◌++◌, None, Some, nat_eq, refl, ap, ap₂, ◌∙◌}
 use Rattle.std.specs.Prelude.{find}
 use Rattle.std.specs.Cmp.Lexicographic.{pointwise}
 use Rattle.std.specs.List.{AllByRecursion, IsDistinct}
@@ -41,3 +41,11 @@ kept_more kept next name definition is more own distinct =
 pub added : (kept next : List (List ℕ × Definition)) (definitions : List Definition) (name : List ℕ) (definition : Definition) → values_of kept ≡ definitions → next ≡ kept ++ (name, definition) ∷ [] → values_of next ≡ definitions ++ definition ∷ []
 added kept next definitions name definition view more =
     ap values_of more ∙ values_more kept name definition ∙ ap (λ (ds : List Definition). ds ++ definition ∷ []) view
+
+-- ---- positions
+
+-- what stands at a position is the definition that is kept there
+pub value_there : (kept : List (List ℕ × Definition)) (i : ℕ) → slice_get (values_of kept) i ≡ option_map (λ entry. entry.1) (slice_get kept i)
+value_there [] i = refl
+value_there (entry ∷ kept) zero = refl
+value_there (entry ∷ kept) (suc i) = value_there kept i

@@ -1,6 +1,7 @@
 //! The functions that a model defines.
-ghost use Rattle.std.specs.Prelude.{◌≡◌, [], ◌∷◌, ◌++◌, None, OnOk, OnErr, option_copied};
-ghost use Rattle.zim_functions.specs.Definitions.{defined, AreNamesDistinct};
+ghost use Rattle.std.specs.Prelude.{◌≡◌, [], ◌∷◌, ◌++◌, None, OnOk, OnErr, nat_eq, position, slice_get, option_copied};
+ghost use Rattle.std.specs.Cmp.Lexicographic.{pointwise};
+ghost use Rattle.zim_functions.specs.Definitions.{defined, defined_names, AreNamesDistinct};
 
 use indexmap::IndexMap;
 use sqlite_items::Boxed;
@@ -71,5 +72,24 @@ impl Defs {
         ensures distinct { AreNamesDistinct self.now }
     {
         self.kept.get(name)
+    }
+
+    /// The position of the function of that name, counted from 0 in the order of definition; None exactly where there is
+    /// none.
+    pub fn position_of(&self, name: &Bytes) -> Option<usize>
+        ensures value { result ≡ position (pointwise nat_eq name.now) (defined_names self.now) }
+        ensures distinct { AreNamesDistinct self.now }
+    {
+        self.kept.get_index_of(name)
+    }
+
+    /// The function at a position; None exactly where there is none.
+    pub fn at(&self, position: usize) -> Option<&Definition>
+        ensures { option_copied result ≡ slice_get self.now position }
+    {
+        match self.kept.get_index(position) {
+            Some((_name, definition)) => Some(definition),
+            None => None,
+        }
     }
 }

@@ -15,8 +15,8 @@ use Rattle.zim_static.specs.declared.role.Role.TheVariants as role
 use Rattle.zim_static.specs.Faults.{Part, part_of, parts_of, known_operands, known_disjuncts, first_of_faults, fault_if, no_constraint, is_slash, all_faults, operands_faults, factors_faults, component_faults, name_bound_by}
 use Rattle.zim_static.specs.StatementFaults.{faults_in, value_faults, values_faults, parameters_faults}
 use Rattle.zim_static.proofs.ListLemmas.{left_from}
-use Rattle.zim_static.proofs.PartLemmas.{part_bound}
-use Rattle.zim_static.proofs.FirstLemmas.{two, three}
+use Rattle.zim_static.proofs.PartLaws.{part_bound}
+use Rattle.zim_static.proofs.FirstLaws.{two, three}
 
 grouped : (x y z : Option Fault) → option_or (option_or x y) z ≡ option_or x (option_or y z)
 grouped None y z = refl

@@ -1,10 +1,13 @@
 mod ScopeLemmas
-mod AroundLemmas
+pub mod AroundLaws
 mod ListLemmas
-mod PartLemmas
+pub mod PartLaws
 mod OperandLemmas
-mod FirstLemmas
+pub mod FirstLaws
 mod FaultLoopLemmas
-mod IndexLemmas
+pub mod IndexLaws
 mod CallsLemmas
+mod NestedLemmas
 mod DeepLemmas
+mod ConstantCallsLemmas
+mod DefinitionLemmas

@@ -4,3 +4,6 @@ pub mod Around
 pub mod Faults
 pub mod Calls
 pub mod StatementFaults
+pub mod Nested
+pub mod Declaring
+pub mod Law

@@ -11,7 +11,7 @@ use zim_tree::Expr;
 
 /// What binds names around a place.
 #[derive(Clone, Copy)]
-pub(crate) enum Around<'a> {
+pub enum Around<'a> {
     Nothing,
     /// The parameters of the function whose body it is.
     Parameters(&'a [(Place, Bytes)]),
@@ -23,7 +23,7 @@ impl<'a> Around<'a> {
     /// Whether a name is bound around the place.
     ///
     /// An index binds the bare names of its tuple that are neither declared nor bound around it.
-    pub(crate) fn has(&self, scope: &Scope, name: &Bytes) -> bool
+    pub fn has(&self, scope: &Scope, name: &Bytes) -> bool
         ensures { result ≡ is_local (names_in scope.now self.now) name.now }
     {
         match self {
@@ -57,7 +57,7 @@ fn is_among(items: &[Expr], name: &Bytes) -> bool
 }
 
 /// The bare name that an expression is, if it is one.
-pub(crate) fn bare_name(tree: &Expr) -> Option<&Bytes>
+pub fn bare_name(tree: &Expr) -> Option<&Bytes>
     ensures { option_copied result ≡ bare_name tree.now }
 {
     match tree {
@@ -67,7 +67,7 @@ pub(crate) fn bare_name(tree: &Expr) -> Option<&Bytes>
 }
 
 /// Whether an expression is this bare name.
-pub(crate) fn is_bare(name: &Bytes, tree: &Expr) -> bool
+pub fn is_bare(name: &Bytes, tree: &Expr) -> bool
     ensures { result ≡ binds name.now (bare_name tree.now) }
 {
     match bare_name(tree) {

@@ -12,7 +12,7 @@ use zim_tree::{Angle, Body, Expr, Index};
 use zim_typed::Declared;
 
 /// The full nesting of the function of this name, 0 where the name is that of none.
-fn function_nesting(scope: &Scope, name: &Bytes) -> u64
+pub(crate) fn function_nesting(scope: &Scope, name: &Bytes) -> u64
     ensures { result ≡ nesting.function_nesting (kind_of_name scope.now name.now) }
 {
     match scope.get(name) {

@@ -342,7 +342,7 @@ fn fault_in_components(scope: &Scope, around: &Around, role: Role, trees: &[Expr
 }
 
 /// Whether a component of an index's tuple is a name that is bound there.
-fn is_bound(scope: &Scope, around: &Around, tree: &Expr) -> bool
+pub fn is_bound(scope: &Scope, around: &Around, tree: &Expr) -> bool
     ensures { result ≡ is_some (bound_name scope.now (names_in scope.now around.now) tree.now) }
 {
     match bare_name(tree) {

@@ -1,5 +1,6 @@
-ghost use Rattle.std.specs.Prelude.{◌≡◌, [], map, is_some, option_copied};
+ghost use Rattle.std.specs.Prelude.{◌≡◌, [], map, is_some, option_copied, None, Some, OnOk, OnErr};
 ghost use Rattle.zim_typed.specs.Scope.{kind_of_name};
+ghost use Rattle.zim_typed.specs.After.{with_name};
 ghost use Rattle.std.specs.List.{list_any};
 ghost use Rattle.zim_static.specs.Scopes.{AreDeclaredOnce, is_the_objective};
 ghost use Rattle.zim_static.specs.Scopes as spec;
@@ -7,7 +8,7 @@ ghost use Rattle.zim_static.specs.Scopes as spec;
 use indexmap::IndexMap;
 use std::alloc::Global;
 use std::marker::Model;
-use zim_fault::Bytes;
+use zim_fault::{Bytes, Duplicate, Memory};
 use zim_typed::Declared;
 
 /// What each name is after the statements so far, in the order of their declarations. A name is found by its hash.
@@ -49,6 +50,17 @@ impl Scope {
         ensures { result ≡ is_some (kind_of_name self.now name.now) }
     {
         self.get(name).is_some()
+    }
+
+    /// Adds a name that isn't declared yet, at the end. After `Memory` the scope is as before.
+    pub(crate) fn add(&mut self, name: &Bytes, what: Declared) -> Result<(), Memory>
+        requires { kind_of_name self.old name.now ≡ None }
+        ensures ok { OnOk result (self.new ≡ with_name self.old name.now (Some what)) }
+        ensures err { OnErr result (self.new ≡ self.old) }
+    {
+        let key = name.copy()?;
+        self.entries.insert(key, what)?;
+        Ok(())
     }
 
     /// Whether an objective is declared.

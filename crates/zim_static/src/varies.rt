@@ -11,7 +11,7 @@ use zim_tree::{Angle, Body, Expr, Index};
 use zim_typed::Declared;
 
 /// Whether a name is that of a variable.
-pub(crate) fn is_variable(scope: &Scope, name: &Bytes) -> bool
+pub fn is_variable(scope: &Scope, name: &Bytes) -> bool
     ensures { result ≡ spec.names_variable scope.now name.now }
 {
     match scope.get(name) {

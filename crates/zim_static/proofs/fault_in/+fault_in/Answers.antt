@@ -11,9 +11,9 @@ use Rattle.zim_static.specs.Around.{names_in}
 use Rattle.zim_static.specs.Roles.{inside, operand, condition_inside}
 use Rattle.zim_static.specs.Faults.{first_of_faults, part_of, parts_of_angle, part_of_body, parts_of, tuples_of, known_operands, known_disjuncts, known_conjuncts, all_faults, given_faults, argument_faults, tuples_faults, operands_faults, conjuncts_faults, factors_faults, component_faults, components_faults, condition_faults}
 use Rattle.zim_static.specs.StatementFaults.{faults_in}
-use Rattle.zim_static.proofs.PartLemmas.{items_known}
-use Rattle.zim_static.proofs.FirstLemmas.{of_one, of_two, of_three, of_four, of_three_none, compare_none, compare_one, compare_two, opens-Infinity, opens-Name, opens-Item, opens-Call, opens-Func, opens-Proj, opens-Paren, opens-Braces, opens-If, opens-Factorial, opens-Power, opens-Signed, opens-Big, opens-Times, opens-Plus, opens-Compare, opens-Member, opens-Not, opens-And, opens-Or, opens-Forall}
-use Rattle.zim_static.proofs.IndexLemmas.{opens-index, opens-Empty, opens-Members, opens-Tuples, opens-Those, opens-Span, behind_index, behind_condition}
+use Rattle.zim_static.proofs.PartLaws.{items_known}
+use Rattle.zim_static.proofs.FirstLaws.{of_one, of_two, of_three, of_four, of_three_none, compare_none, compare_one, compare_two, opens-Infinity, opens-Name, opens-Item, opens-Call, opens-Func, opens-Proj, opens-Paren, opens-Braces, opens-If, opens-Factorial, opens-Power, opens-Signed, opens-Big, opens-Times, opens-Plus, opens-Compare, opens-Member, opens-Not, opens-And, opens-Or, opens-Forall}
+use Rattle.zim_static.proofs.IndexLaws.{opens-index, opens-Empty, opens-Members, opens-Tuples, opens-Those, opens-Span, behind_index, behind_condition}
 use Rattle.zim_static.proofs.FaultLoopLemmas.{loop_next, loop_end, operands_step, disjuncts_step, factors_step, operands_none, factors_none, component_bound, component_fault}
 use Rattle.zim_static.proofs.fault_in.+fault_in.Goals as goal
 

@@ -1,6 +1,6 @@
 -- As the tree has them.
 use Rattle.std.proofs.Common.{sym, ◌∙◌}
-use Rattle.zim_static.proofs.PartLemmas.{part_varies_as_tree}
+use Rattle.zim_static.proofs.PartLaws.{part_varies_as_tree}
 use Rattle.zim_static.proofs.marks.has_variables.Goals as goal
 
 pub returns : goal.returns

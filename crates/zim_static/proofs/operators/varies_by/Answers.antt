@@ -1,7 +1,7 @@
 -- An operand has variables where the tree has them.
 use Rattle.std.proofs.Common.{◌||◌, sym, ◌∙◌}
 use Rattle.zim_static.specs.Faults.{part_of}
-use Rattle.zim_static.proofs.PartLemmas.{part_varies_as_tree}
+use Rattle.zim_static.proofs.PartLaws.{part_varies_as_tree}
 use Rattle.zim_static.proofs.operators.varies_by.Goals as goal
 
 pub returns-else-before : goal.returns-else-before

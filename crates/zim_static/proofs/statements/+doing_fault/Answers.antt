@@ -10,8 +10,8 @@ use Rattle.zim_typed.specs.Scope.{Names, Scope}
 use Rattle.zim_static.specs.Around.{names_in}
 use Rattle.zim_static.specs.Faults.{first_of_faults}
 use Rattle.zim_static.specs.StatementFaults.{faults_in_doing, doing_faults, statement_index_faults, index_names}
-use Rattle.zim_static.proofs.FirstLemmas.{of_two}
-use Rattle.zim_static.proofs.IndexLemmas.{behind_names}
+use Rattle.zim_static.proofs.FirstLaws.{of_two}
+use Rattle.zim_static.proofs.IndexLaws.{behind_names}
 use Rattle.zim_static.proofs.statements.+doing_fault.Goals as goal
 
 opens-Forall : (scope : Scope) (names : Names) (place : Place) (index : Index) (with_do : Bool) (inside : Doing) →

@@ -4,7 +4,7 @@ use Rattle.zim_tree.specs.declared.expr.Angle.{out-Angle}
 use Rattle.zim_tree.specs.declared.expr.Index.{Index, out-Index}
 use Rattle.zim_tree.specs.declared.stmt.Bracket.{Bracket}
 use Rattle.zim_static.specs.StatementFaults.{brackets_names}
-use Rattle.zim_static.proofs.IndexLemmas.{behind_names}
+use Rattle.zim_static.proofs.IndexLaws.{behind_names}
 use Rattle.zim_static.proofs.statements.behind_bracket.Goals as goal
 
 pub returns-in-Loop : goal.returns-in-Loop

@@ -3,8 +3,8 @@ use Rattle.std.proofs.Common.{sym, ap, ◌∙◌}
 use Rattle.zim_typed.specs.Scope.{Names}
 use Rattle.zim_static.specs.Faults.{first_of_faults}
 use Rattle.zim_static.specs.StatementFaults.{set_faults, param_faults, limits_faults, operand_faults, shape_faults}
-use Rattle.zim_static.proofs.AroundLemmas.{names-Nothing}
-use Rattle.zim_static.proofs.FirstLemmas.{of_two, of_four}
+use Rattle.zim_static.proofs.AroundLaws.{names-Nothing}
+use Rattle.zim_static.proofs.FirstLaws.{of_two, of_four}
 use Rattle.zim_static.proofs.statements.shape_fault.Goals as goal
 
 pub returns-in-Set : goal.returns-in-Set

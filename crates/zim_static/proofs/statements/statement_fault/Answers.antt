@@ -1,5 +1,5 @@
 -- The fault of the name, and then those of what stands behind it.
-use Rattle.zim_static.proofs.FirstLemmas.{of_two}
+use Rattle.zim_static.proofs.FirstLaws.{of_two}
 use Rattle.zim_static.proofs.statements.statement_fault.Goals as goal
 
 pub returns : goal.returns

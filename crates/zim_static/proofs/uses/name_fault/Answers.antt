@@ -3,7 +3,7 @@ use Rattle.std.proofs.Common.{ap, not, ◌&&◌, ◌∙◌}
 use Rattle.zim_fault.specs.declared.kinds.Kind.TheVariants.{VariableHere}
 use Rattle.zim_static.specs.Roles.{is_term}
 use Rattle.zim_static.specs.Faults.{first_of_faults, fault_if}
-use Rattle.zim_static.proofs.FirstLemmas.{of_three}
+use Rattle.zim_static.proofs.FirstLaws.{of_three}
 use Rattle.zim_static.proofs.uses.name_fault.Goals as goal
 
 pub returns : goal.returns

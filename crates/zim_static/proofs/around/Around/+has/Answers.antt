@@ -1,6 +1,6 @@
 -- A name is bound around an index, or by it.
 use Rattle.std.proofs.Common.{sym, ◌∙◌}
-use Rattle.zim_static.proofs.AroundLemmas.{bound_by_it, not_bound, has_parameter}
+use Rattle.zim_static.proofs.AroundLaws.{bound_by_it, not_bound, has_parameter}
 use Rattle.zim_static.proofs.around.Around.+has.Goals as goal
 
 pub returns-else-is_declared : goal.returns-else-is_declared

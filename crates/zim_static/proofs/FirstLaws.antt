@@ -20,7 +20,7 @@ use Rattle.zim_static.specs.declared.role.Role.{Role}
 use Rattle.zim_static.specs.Roles.{inside, term_inside, operand, condition_inside, conjunct, constraint_inside, parenthesised, role_behind_sign, branch_of, test, test_of, side, chain_side, summand, is_constraint, is_bound}
 use Rattle.zim_static.specs.Faults.{Part, part_of, parts_of_angle, part_of_index, part_of_body, parts_of, known_operands, known_sides, known_disjuncts, known_conjuncts, first_of_faults, fault_if, no_constraint, all_faults, given_faults, name_faults, wrong_use, function_faults, argument_faults, argument_role, factorial_faults, is_prod, is_by_stars, is_by_signs, adds, operands_faults, factors_faults, conjuncts_faults, comparison_faults, encloses}
 use Rattle.zim_static.specs.StatementFaults.{faults_in}
-use Rattle.zim_static.proofs.PartLemmas.{at_expr}
+use Rattle.zim_static.proofs.PartLaws.{at_expr}
 
 -- the first of faults one behind the other
 pub two : (a b : List Fault) → first_of_faults (a ++ b) ≡ option_or (first_of_faults a) (first_of_faults b)

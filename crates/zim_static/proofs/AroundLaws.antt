@@ -11,13 +11,13 @@ use Rattle.zim_typed.specs.Pattern.{bare_name, binds, bound_name}
 use Rattle.zim_static.specs.declared.around.Around.{Around, Nothing, Parameters, Index, the_lemmas}
 use Rattle.zim_static.specs.Around.{names_in}
 
-both : (a b : Bool) → (a && b) ≡ true → (a ≡ true) × (b ≡ true)
+pub both : (a b : Bool) → (a && b) ≡ true → (a ≡ true) × (b ≡ true)
 both true true h = (refl, refl)
 both true false h = absurd (false≢true h)
 both false b h = absurd (false≢true h)
 
 -- texts that are equal byte by byte are equal
-same_text : (xs ys : Text) → pointwise nat_eq xs ys ≡ true → xs ≡ ys
+pub same_text : (xs ys : Text) → pointwise nat_eq xs ys ≡ true → xs ≡ ys
 same_text [] [] h = refl
 same_text [] (y ∷ ys) h = absurd (false≢true h)
 same_text (x ∷ xs) [] h = absurd (false≢true h)

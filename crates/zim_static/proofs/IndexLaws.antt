@@ -19,10 +19,10 @@ use Rattle.zim_static.specs.Around.{names_in}
 use Rattle.zim_static.specs.declared.around.Around.{Around}
 use Rattle.zim_static.specs.declared.around.Around.TheVariants as around
 use Rattle.zim_static.specs.Faults.{first_of_faults}
-use Rattle.zim_static.proofs.AroundLemmas.{names-Index}
-use Rattle.zim_static.proofs.PartLemmas.{at_index, at_body, items_known, names_known, index_names_known}
+use Rattle.zim_static.proofs.AroundLaws.{names-Index}
+use Rattle.zim_static.proofs.PartLaws.{at_index, at_body, items_known, names_known, index_names_known}
 
-opens_parts : (scope : Scope) (role : Role) (names : Names) (p : Place) (t : Angle) (s : Expr) (cond : Option (Bool × Expr)) →
+pub opens_parts : (scope : Scope) (role : Role) (names : Names) (p : Place) (t : Angle) (s : Expr) (cond : Option (Bool × Expr)) →
     (part_of_index scope (trees.index_of p t s cond)).faults role names
     ≡ components_faults scope role names (parts_of_angle scope t) ++ faults_in scope role names s ++ condition_faults role (names_behind scope names (parts_of_angle scope t)) (option_map (λ (c : Bool × Expr). (c.0, part_of scope c.1)) cond)
 opens_parts scope role names p t s None = ap (λ (x : IndexPart). x.faults role names) (at_index scope (record { place = p; tuple = t; set = s; cond = None }))

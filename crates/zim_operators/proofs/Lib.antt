@@ -1,0 +1,4 @@
+mod OrderLemmas
+mod LoopLemmas
+mod TextLemmas
+mod SetLemmas
