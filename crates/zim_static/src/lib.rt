@@ -22,9 +22,9 @@ mod statements;
 mod uses;
 mod varies;
 
-pub use law::definitions_nest_as_their_statements;
 pub use around::{Around, bare_name, is_bare};
 pub use fault_in::is_bound;
+pub use law::definitions_nest_as_their_statements;
 pub use scope::Scope;
 pub use statements::static_fault;
 pub use varies::is_variable;

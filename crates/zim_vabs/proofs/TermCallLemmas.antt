@@ -190,10 +190,10 @@ pub record IsAddingMembers (statement n : ℕ) (place : Place) (start : Made) (m
   pub leads : members_of statement place so_far (drop i members) ≡ members_of statement place start members
   pub grown : n ≤ length so_far.1.columns
 
-pub sum_stops : (statement n : ℕ) (others : List (Place × Bool × GTerm)) (start : Made) (now : LinearSystem) (sum : LinearForm) (i : ℕ) (o : Place × Bool × GTerm) (refused : EncodeFault) → i < length others → o ≡ get_or others i o → IsSumming statement n start others i (sum, now)
-    → Stops (multiplying_turn statement (sum, now) o) (encode_cause refused) → Stops (term_sum statement start others) (encode_cause refused)
-sum_stops statement n others start now sum i o refused lt is summing stops =
-    Stops-goes (multiplying_turn statement) (sum, now) others i o (encode_cause refused) (term_sum statement start others) lt (sym is) stops summing.leads
+pub sum_stops : (statement n : ℕ) (others : List (Place × Bool × GTerm)) (start : Made) (now : LinearSystem) (sum : LinearForm) (i : ℕ) (o : Place × Bool × GTerm) (refused : EncodeFault) (begun : Made) → i < length others → o ≡ get_or others i o → IsSumming statement n start others i (sum, now)
+    → start ≡ begun → Stops (multiplying_turn statement (sum, now) o) (encode_cause refused) → Stops (term_sum statement begun others) (encode_cause refused)
+sum_stops statement n others start now sum i o refused begun lt is summing e stops =
+    Stops-goes (multiplying_turn statement) (sum, now) others i o (encode_cause refused) (term_sum statement begun others) lt (sym is) stops (summing.leads ∙ ap (λ (m : Made). term_sum statement m others) e)
 
 pub sum_goes_on : (statement n : ℕ) (others : List (Place × Bool × GTerm)) (start : Made) (now new : LinearSystem) (sum more : LinearForm) (i : ℕ) (o : Place × Bool × GTerm) → i < length others → o ≡ get_or others i o → IsSumming statement n start others i (sum, now)
     → multiplying_turn statement (sum, now) o ≡ Ok (more, new) → length now.columns ≤ length new.columns → IsSumming statement n start others (i + 1) (more, new)
@@ -204,8 +204,8 @@ sum_goes_on statement n others start now new sum more i o lt is summing turn le 
       grown = omega arith;
     }
 
-pub sum_ends : (statement n : ℕ) (others : List (Place × Bool × GTerm)) (start : Made) (now : LinearSystem) (sum : LinearForm) (i : ℕ) → length others ≤ i → IsSumming statement n start others i (sum, now) → term_sum statement start others ≡ Ok (sum, now)
-sum_ends statement n others start now sum i le summing = goes_done (multiplying_turn statement) (sum, now) others i (term_sum statement start others) le summing.leads
+pub sum_ends : (statement n : ℕ) (others : List (Place × Bool × GTerm)) (start : Made) (now : LinearSystem) (sum : LinearForm) (i : ℕ) (begun : Made) → length others ≤ i → IsSumming statement n start others i (sum, now) → start ≡ begun → term_sum statement begun others ≡ Ok (sum, now)
+sum_ends statement n others start now sum i begun le summing e = goes_done (multiplying_turn statement) (sum, now) others i (term_sum statement begun others) le (summing.leads ∙ ap (λ (m : Made). term_sum statement m others) e)
 
 pub members_stop : (statement n : ℕ) (place : Place) (start : Made) (ts : List GTerm) (now : LinearSystem) (sum : LinearForm) (i : ℕ) (t : GTerm) (refused : EncodeFault) (begun : Made) → i < length ts → t ≡ get_or ts i t → IsAddingMembers statement n place start ts i (sum, now)
     → start ≡ begun → Stops (further_member statement place (sum, now) t) (encode_cause refused) → Stops (members_of statement place begun ts) (encode_cause refused)
@@ -224,6 +224,10 @@ members_go_on statement n place start ts now new sum more i t lt is adding turn 
 pub members_end : (statement n : ℕ) (place : Place) (start : Made) (ts : List GTerm) (now : LinearSystem) (sum : LinearForm) (i : ℕ) (begun : Made) → length ts ≤ i → IsAddingMembers statement n place start ts i (sum, now) → start ≡ begun → members_of statement place begun ts ≡ Ok (sum, now)
 members_end statement n place start ts now sum i begun le adding e = goes_done (further_member statement place) (sum, now) ts i (members_of statement place begun ts) le (adding.leads ∙ ap (λ (m : Made). members_of statement place m ts) e)
 
+-- the form that is given at the begin
+pub given_is : (gathered form : LinearForm) (s : LinearSystem) → gathered ≡ form → ◌≡◌ {A = Made} (gathered, s) (form, s)
+given_is gathered form s e = ap (λ (f : LinearForm). (f, s)) e
+
 -- the form 0 at the begin
-pub nought_is : (form : LinearForm) (z : Rational) (s : LinearSystem) → z ≡ zero → form ≡ form_of [] z → ◌≡◌ {A = Made} (form, s) (known zero, s)
-nought_is form z s e is = ap (λ (f : LinearForm). (f, s)) (is ∙ ap (form_of []) e)
+pub nought_is : (gathered form : LinearForm) (z : Rational) (s : LinearSystem) → z ≡ zero → form ≡ form_of [] z → gathered ≡ form → ◌≡◌ {A = Made} (gathered, s) (known zero, s)
+nought_is gathered form z s e is same = ap (λ (f : LinearForm). (f, s)) (same ∙ is ∙ ap (form_of []) e)

@@ -18,9 +18,10 @@ ghost use Rattle.zim_vabs.specs.Meaning.{FormMade};
 use crate::values::absolute_of;
 use std::alloc::Global;
 use zim_fault::Place;
-use zim_forms::{add_to, exact_quotient, multiple};
+use zim_forms::{exact_quotient, multiple};
 use zim_formula::GTerm;
 use zim_fraction::{Fraction, Past};
+use zim_gathered::GatheredForm;
 use zim_linear as linear;
 use zim_linear::{Form, LinFault};
 use zim_logic_rows as logic;
@@ -127,14 +128,14 @@ fn sum(
     requires { IsTrue (operands_over (length system.old.columns) others.now) }
     ensures { Encodes (λ form. form) (λ s. term_sum statement (first, s) others.now) system.old system.new result }
 {
-    let mut sum = first;
+    let mut sum = GatheredForm::of(alloc, first);
     for operand in others {
         system.valid();
         let (place, minus, t) = operand;
         let form = term(alloc, system, statement, t)?;
         add_signed(alloc, *place, &mut sum, *minus, &form)?;
     }
-    Ok(sum)
+    Ok(sum.into_form()?)
 }
 
 // The sum of members, 0 of none.
@@ -149,20 +150,20 @@ fn sum_over(
     requires { IsTrue (all_hold (map (is_term_over (length system.old.columns)) members.now)) }
     ensures { Encodes (λ form. form) (sum_over_makes statement place members.now) system.old system.new result }
 {
-    let mut sum = Form::constant(alloc, Fraction::zero());
+    let mut sum = GatheredForm::of(alloc, Form::constant(alloc, Fraction::zero()));
     for member in members {
         system.valid();
         let form = term(alloc, system, statement, member)?;
         add(place, &mut sum, &form)?;
     }
-    Ok(sum)
+    Ok(sum.into_form()?)
 }
 
 // Adds a form to a sum, or takes it from it, at the place of the operator.
 fn add_signed(
     alloc: Global,
     place: Place,
-    sum: &mut Form,
+    sum: &mut GatheredForm,
     minus: bool,
     form: &Form,
 ) -> Result<(), EncodeFault>
@@ -176,10 +177,10 @@ fn add_signed(
 }
 
 // Adds a form to a sum at a place.
-fn add(place: Place, sum: &mut Form, form: &Form) -> Result<(), EncodeFault>
+fn add(place: Place, sum: &mut GatheredForm, form: &Form) -> Result<(), EncodeFault>
     ensures { Gives (λ _. sum.new) encode_cause (past_at place (form_sum sum.old form.now)) result }
 {
-    match add_to(sum, form) {
+    match sum.add(form) {
         Ok(()) => Ok(()),
         Err(fault) => Err(logic::past_at(place, fault)),
     }

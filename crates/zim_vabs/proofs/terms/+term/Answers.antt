@@ -5,7 +5,7 @@ use Rattle.zim_rational.specs.Rational.{zero}
 use Rattle.zim_forms.specs.Algebra.{known}
 use Rattle.zim_vabs.proofs.OverTermLaws.{operand_here, member_here, sum_operands, sum_first, product_term, minus_term, sum_members, absolute_inner}
 use Rattle.zim_formula.specs.GroundRules.{is_term_over}
-use Rattle.zim_vabs.proofs.TermCallLemmas.{turn_stops, turn_gives, turn_past, member_stops, member_gives, member_past, grown, made_over, sum_told, sum_over_told, product_gives, sum_stops, sum_goes_on, sum_ends, members_stop, members_go_on, members_end, nought_is}
+use Rattle.zim_vabs.proofs.TermCallLemmas.{turn_stops, turn_gives, turn_past, member_stops, member_gives, member_past, grown, made_over, sum_told, sum_over_told, product_gives, sum_stops, sum_goes_on, sum_ends, members_stop, members_go_on, members_end, nought_is, given_is}
 use Rattle.zim_vabs.proofs.WeightLemmas.{weight, operands_weigh, members_weigh, weight-Sum, weight-Product, weight-Minus, weight-SumOver, weight-Abs, operand_weighs, member_weighs}
 use Rattle.zim_vabs.proofs.terms.+term.Goals as goal
 
@@ -26,14 +26,14 @@ pub sum-returns-in_err-form : goal.sum-returns-in_err-form
 sum-returns-in_err-form t c =
     let p = err_from_is_err_and c.from_residual.result c.from_residual.ensures.1 in
     rw (p.1, p.2)
-    (sum_stops c.args.statement (length c.args.system.now.columns) c.args.others.now (c.args.first, c.args.system.now) c.loop-operand.system c.loop-operand.sum c.loop-operand.operand-index c.operand-item.result _ c.loop-operand-test.true c.operand-item.is c.loop-operand.invariant
+    (sum_stops c.args.statement (length c.args.system.now.columns) c.args.others.now (c.of-sum.result, c.args.system.now) c.loop-operand.system c.loop-operand.sum c.loop-operand.operand-index c.operand-item.result _ (c.args.first, c.args.system.now) c.loop-operand-test.true c.operand-item.is c.loop-operand.invariant (given_is c.of-sum.result c.args.first c.args.system.now c.of-sum.ensures)
     (turn_stops c.args.statement c.loop-operand.sum c.loop-operand.system c.operand-item.result _ c.in_err-form.ensures))
 
 pub sum-returns-in_err-add_signed : goal.sum-returns-in_err-add_signed
 sum-returns-in_err-add_signed t c =
     let p = err_from_is_err_and c.from_residual-in_err-add_signed.result c.from_residual-in_err-add_signed.ensures.1 in
     rw (p.1, p.2)
-    (sum_stops c.args.statement (length c.args.system.now.columns) c.args.others.now (c.args.first, c.args.system.now) c.loop-operand.system c.loop-operand.sum c.loop-operand.operand-index c.operand-item.result _ c.loop-operand-test.true c.operand-item.is c.loop-operand.invariant
+    (sum_stops c.args.statement (length c.args.system.now.columns) c.args.others.now (c.of-sum.result, c.args.system.now) c.loop-operand.system c.loop-operand.sum c.loop-operand.operand-index c.operand-item.result _ (c.args.first, c.args.system.now) c.loop-operand-test.true c.operand-item.is c.loop-operand.invariant (given_is c.of-sum.result c.args.first c.args.system.now c.of-sum.ensures)
     (turn_past c.args.statement c.loop-operand.sum c.loop-operand.system _ c.operand-item.result _ _ c.in_ok-form.ensures c.in_err-add_signed.ensures))
 
 pub sum-loop-operand-preserved : goal.sum-loop-operand-preserved
@@ -44,20 +44,21 @@ sum-loop-operand-preserved t c =
 
 pub sum-returns : goal.sum-returns
 sum-returns t c =
-    sum_ends c.args.statement (length c.args.system.now.columns) c.args.others.now (c.args.first, c.args.system.now) c.loop-operand.system c.loop-operand.sum c.loop-operand.operand-index (omega (arith, c.loop-operand-test.false)) c.loop-operand.invariant
+    rw c.in_ok-into_form.ensures
+    (sum_ends c.args.statement (length c.args.system.now.columns) c.args.others.now (c.of-sum.result, c.args.system.now) c.loop-operand.system c.loop-operand.sum c.loop-operand.operand-index (c.args.first, c.args.system.now) (omega (arith, c.loop-operand-test.false)) c.loop-operand.invariant (given_is c.of-sum.result c.args.first c.args.system.now c.of-sum.ensures))
 
 pub sum_over-returns-in_err-form : goal.sum_over-returns-in_err-form
 sum_over-returns-in_err-form t c =
     let p = err_from_is_err_and c.from_residual.result c.from_residual.ensures.1 in
     rw (p.1, p.2)
-    (members_stop c.args.statement (length c.args.system.now.columns) c.args.place (c.constant-sum.result, c.args.system.now) c.args.members.now c.loop-member.system c.loop-member.sum c.loop-member.member-index c.member-item.result _ (known zero, c.args.system.now) c.loop-member-test.true c.member-item.is c.loop-member.invariant (nought_is c.constant-sum.result c.zero.result c.args.system.now c.zero.ensures c.constant-sum.ensures)
+    (members_stop c.args.statement (length c.args.system.now.columns) c.args.place (c.of-sum.result, c.args.system.now) c.args.members.now c.loop-member.system c.loop-member.sum c.loop-member.member-index c.member-item.result _ (known zero, c.args.system.now) c.loop-member-test.true c.member-item.is c.loop-member.invariant (nought_is c.of-sum.result c.constant.result c.zero.result c.args.system.now c.zero.ensures c.constant.ensures c.of-sum.ensures)
     (member_stops c.args.statement c.args.place c.loop-member.sum c.loop-member.system c.member-item.result _ c.in_err-form.ensures))
 
 pub sum_over-returns-in_err-add : goal.sum_over-returns-in_err-add
 sum_over-returns-in_err-add t c =
     let p = err_from_is_err_and c.from_residual-in_err-add.result c.from_residual-in_err-add.ensures.1 in
     rw (p.1, p.2)
-    (members_stop c.args.statement (length c.args.system.now.columns) c.args.place (c.constant-sum.result, c.args.system.now) c.args.members.now c.loop-member.system c.loop-member.sum c.loop-member.member-index c.member-item.result _ (known zero, c.args.system.now) c.loop-member-test.true c.member-item.is c.loop-member.invariant (nought_is c.constant-sum.result c.zero.result c.args.system.now c.zero.ensures c.constant-sum.ensures)
+    (members_stop c.args.statement (length c.args.system.now.columns) c.args.place (c.of-sum.result, c.args.system.now) c.args.members.now c.loop-member.system c.loop-member.sum c.loop-member.member-index c.member-item.result _ (known zero, c.args.system.now) c.loop-member-test.true c.member-item.is c.loop-member.invariant (nought_is c.of-sum.result c.constant.result c.zero.result c.args.system.now c.zero.ensures c.constant.ensures c.of-sum.ensures)
     (member_past c.args.statement c.args.place c.loop-member.sum c.loop-member.system _ c.member-item.result _ _ c.in_ok-form.ensures c.in_err-add.ensures))
 
 pub sum_over-loop-member-preserved : goal.sum_over-loop-member-preserved
@@ -68,7 +69,8 @@ sum_over-loop-member-preserved t c =
 
 pub sum_over-returns : goal.sum_over-returns
 sum_over-returns t c =
-    members_end c.args.statement (length c.args.system.now.columns) c.args.place (c.constant-sum.result, c.args.system.now) c.args.members.now c.loop-member.system c.loop-member.sum c.loop-member.member-index (known zero, c.args.system.now) (omega (arith, c.loop-member-test.false)) c.loop-member.invariant (nought_is c.constant-sum.result c.zero.result c.args.system.now c.zero.ensures c.constant-sum.ensures)
+    rw c.in_ok-into_form.ensures
+    (members_end c.args.statement (length c.args.system.now.columns) c.args.place (c.of-sum.result, c.args.system.now) c.args.members.now c.loop-member.system c.loop-member.sum c.loop-member.member-index (known zero, c.args.system.now) (omega (arith, c.loop-member-test.false)) c.loop-member.invariant (nought_is c.of-sum.result c.constant.result c.zero.result c.args.system.now c.zero.ensures c.constant.ensures c.of-sum.ensures))
 
 pub sum-term-requires : goal.sum-term-requires
 sum-term-requires t c =
