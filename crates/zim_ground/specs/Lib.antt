@@ -1,0 +1,4 @@
+pub mod Meaning
+pub mod Grounding
+pub mod Asking
+pub mod Law
