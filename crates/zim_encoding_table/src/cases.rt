@@ -1,16 +1,15 @@
 //! The answer to each line of the table.
 
+use crate::columns::add_column;
 use crate::formulas::PLACE;
 use crate::points::points_behind;
-use crate::sides::are_sides;
 use crate::stack::{constraint_of, number_of};
 use crate::stops::Stop;
 use itoa::Buffer;
 use std::alloc::Global;
+use std::mem;
 use zim_fault::{Bytes, Memory, text_of_kind};
-use zim_fraction::Fraction;
 use zim_gate::{Folder, MemoryFolder};
-use zim_linear::Sides;
 use zim_lp::write;
 use zim_rows::{EncodeFault, Finished, RowFrom, System};
 use zim_vif::encode;
@@ -24,20 +23,13 @@ const FROM: RowFrom = RowFrom {
 /// More bytes than any text of the table has.
 const ROOM: usize = 1_000_000;
 
-/// The system that the lines so far made.
+/// The systems that the lines so far made.
 #[derive(Drop)]
-enum Model {
-    Open(System),
-    Finished(Finished),
-}
-
-/// A side of a column, where `-` stands for none.
-fn side_of(text: &str) -> Result<Option<Fraction>, Stop> {
-    if text == "-" {
-        Ok(None)
-    } else {
-        Ok(Some(number_of(text)?))
-    }
+struct Model {
+    /// The one that columns and constraints are added to.
+    open: System,
+    /// The last one whose rows were asked for.
+    finished: Option<Finished>,
 }
 
 /// Puts a number at the end.
@@ -45,85 +37,69 @@ fn put_number(number: i64, page: &mut Bytes) -> Result<(), Memory> {
     page.extend_from_slice(Buffer::new().format(number).as_bytes())
 }
 
-/// The system with one more column.
-fn with_column(
-    alloc: Global,
-    model: Model,
+/// Adds a column, and puts its name at the end.
+fn put_column(
+    system: &mut System,
     integer: bool,
     sides: &str,
     page: &mut Bytes,
-) -> Result<Model, Stop> {
-    let mut system = match model {
-        Model::Open(system) => system,
-        Model::Finished(_) => System::new(alloc),
-    };
-    let Some((low, high)) = sides.split_once(' ') else {
-        return Err(Stop::NoCase);
-    };
-    let sides = Sides {
-        low: side_of(low)?,
-        high: side_of(high)?,
-    };
-    if !are_sides(integer, &sides) {
-        return Err(Stop::NoCase);
-    }
-    let Ok(number) = system.new_column(integer, sides) else {
-        return Err(Stop::Memory);
-    };
+) -> Result<(), Stop> {
+    let number = add_column(system, integer, sides)?;
     page.extend_from_slice(b"x")?;
-    put_number(number as i64, page)?;
-    Ok(Model::Open(system))
+    Ok(put_number(number as i64, page)?)
 }
 
-/// The system with one more constraint; a new one after a fault.
-fn with_constraint(
+/// Adds a constraint, and puts at the end how many columns and rows there are then; after a fault, whose name is put there,
+/// a new system begins.
+fn add_constraint(
     alloc: Global,
-    model: Model,
+    system: &mut System,
     words: &str,
     page: &mut Bytes,
-) -> Result<Model, Stop> {
-    let Model::Open(mut system) = model else {
-        return Err(Stop::NoCase);
-    };
+) -> Result<(), Stop> {
     let constraint = constraint_of(alloc, system.column_count(), words)?;
     if constraint.columns != system.column_count() {
         return Err(Stop::NoCase);
     }
-    match encode(alloc, &mut system, FROM, None, &constraint.tree) {
-        Ok(()) => {
-            put_number(system.column_count() as i64, page)?;
-            page.extend_from_slice(b" columns, ")?;
-            put_number(system.row_count() as i64, page)?;
-            page.extend_from_slice(b" rows")?;
-            Ok(Model::Open(system))
-        }
+    match encode(alloc, system, FROM, None, &constraint.tree) {
+        Ok(()) => Ok(put_counts(system, page)?),
         Err(EncodeFault::Fault(fault)) => {
-            page.extend_from_slice(text_of_kind(fault.kind))?;
-            Ok(Model::Open(System::new(alloc)))
+            *system = System::new(alloc);
+            Ok(page.extend_from_slice(text_of_kind(fault.kind))?)
         }
         Err(EncodeFault::Memory) => Err(Stop::Memory),
     }
 }
 
-/// The finished system, whose LP text is put at the end.
-fn written(alloc: Global, model: Model, page: &mut Bytes) -> Result<Model, Stop> {
-    let Model::Open(system) = model else {
-        return Err(Stop::NoCase);
-    };
+/// Puts at the end how many columns and rows a system has.
+fn put_counts(system: &System, page: &mut Bytes) -> Result<(), Memory> {
+    put_number(system.column_count() as i64, page)?;
+    page.extend_from_slice(b" columns, ")?;
+    put_number(system.row_count() as i64, page)?;
+    page.extend_from_slice(b" rows")
+}
+
+/// Finishes the system, puts its LP text at the end, and begins a new one.
+fn finish(alloc: Global, model: &mut Model, page: &mut Bytes) -> Result<(), Stop> {
+    let system = mem::replace(&mut model.open, System::new(alloc));
     let Ok(finished) = system.finish() else {
         return Err(Stop::NoCase);
     };
+    put_text(alloc, &finished, page)?;
+    model.finished = Some(finished);
+    Ok(())
+}
+
+/// Puts the LP text of a system at the end.
+fn put_text(alloc: Global, system: &Finished, page: &mut Bytes) -> Result<(), Stop> {
     let mut folder = MemoryFolder::new(alloc, Vec::new(alloc), ROOM, Vec::new(alloc))?;
-    if folder.begin(b"m.lp").is_err() {
+    if folder.begin(b"m.lp").is_err() || write(system, &mut folder).is_err() {
         return Err(Stop::NoCase);
     }
-    if write(&finished, &mut folder).is_err() {
-        return Err(Stop::NoCase);
+    match folder.bytes_of(b"m.lp") {
+        Some(text) => Ok(page.extend_from_slice(text)?),
+        None => Err(Stop::NoCase),
     }
-    if let Some(text) = folder.bytes_of(b"m.lp") {
-        page.extend_from_slice(text)?;
-    }
-    Ok(Model::Finished(finished))
 }
 
 /// Puts the points at the end that begin with these numbers.
@@ -144,32 +120,35 @@ fn put_points(
     let mut separator: &[u8] = b"";
     for helpers in points.iter() {
         page.extend_from_slice(separator)?;
-        page.extend_from_slice(b"behind them")?;
-        for number in helpers.iter() {
-            page.extend_from_slice(b" ")?;
-            put_number(*number, page)?;
-        }
+        put_point(helpers.as_slice(), page)?;
         separator = b", ";
     }
     Ok(())
 }
 
-/// The system after a line, whose answer is put at the end.
-fn next(alloc: Global, model: Model, line: &str, page: &mut Bytes) -> Result<Model, Stop> {
+/// Puts what stands behind the given numbers at the end.
+fn put_point(helpers: &[i64], page: &mut Bytes) -> Result<(), Memory> {
+    page.extend_from_slice(b"behind them")?;
+    for number in helpers {
+        page.extend_from_slice(b" ")?;
+        put_number(*number, page)?;
+    }
+    Ok(())
+}
+
+/// Does what a line says, and puts its answer at the end.
+fn next(alloc: Global, model: &mut Model, line: &str, page: &mut Bytes) -> Result<(), Stop> {
     match line.split_once(' ') {
-        Some(("integer", sides)) => with_column(alloc, model, true, sides, page),
-        Some(("real", sides)) => with_column(alloc, model, false, sides, page),
-        Some(("encode", words)) => with_constraint(alloc, model, words, page),
-        Some(("points", numbers)) => match model {
-            Model::Finished(finished) => {
-                put_points(alloc, &finished, numbers, page)?;
-                Ok(Model::Finished(finished))
-            }
-            Model::Open(_) => Err(Stop::NoCase),
+        Some(("integer", sides)) => put_column(&mut model.open, true, sides, page),
+        Some(("real", sides)) => put_column(&mut model.open, false, sides, page),
+        Some(("encode", words)) => add_constraint(alloc, &mut model.open, words, page),
+        Some(("points", numbers)) => match &model.finished {
+            Some(finished) => put_points(alloc, finished, numbers, page),
+            None => Err(Stop::NoCase),
         },
         _ => {
             if line == "rows" {
-                written(alloc, model, page)
+                finish(alloc, model, page)
             } else {
                 Err(Stop::NoCase)
             }
@@ -177,23 +156,31 @@ fn next(alloc: Global, model: Model, line: &str, page: &mut Bytes) -> Result<Mod
     }
 }
 
+/// Puts the answer to a line at the end.
+fn answer(alloc: Global, model: &mut Model, line: &str, page: &mut Bytes) -> Result<(), Memory> {
+    match next(alloc, model, line, page) {
+        Ok(()) => {}
+        Err(Stop::Memory) => return Err(Memory),
+        Err(Stop::NoCase) => {
+            page.extend_from_slice(b"no case")?;
+            model.open = System::new(alloc);
+        }
+    }
+    page.extend_from_slice(b"\n")
+}
+
 /// The lines of a table, and behind each its answer.
 pub fn answers(alloc: Global, table: &str) -> Result<Bytes, Memory> {
     let mut page = Bytes::new(alloc);
-    let mut model = Model::Open(System::new(alloc));
+    let mut model = Model {
+        open: System::new(alloc),
+        finished: None,
+    };
     for line in table.lines() {
         page.extend_from_slice(line.as_bytes())?;
         page.extend_from_slice(b"\n")?;
         if !line.is_empty() && !line.starts_with('#') {
-            model = match next(alloc, model, line, &mut page) {
-                Ok(after) => after,
-                Err(Stop::Memory) => return Err(Memory),
-                Err(Stop::NoCase) => {
-                    page.extend_from_slice(b"no case")?;
-                    Model::Open(System::new(alloc))
-                }
-            };
-            page.extend_from_slice(b"\n")?;
+            answer(alloc, &mut model, line, &mut page)?;
         }
     }
     Ok(page)

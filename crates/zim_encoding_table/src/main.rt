@@ -2,8 +2,8 @@
 //! constraints and questions, and `stdout` behind each line its answer. The rows and points there were written by
 //! hand, from the rules of the encodings.
 //!
-//! A line is one of these. `integer LOW HIGH` and `real LOW HIGH` add a column, where `-` stands for no side; the first
-//! one behind a `rows` begins a new system. `encode WORDS` encodes a constraint without a guard, and its answer is how many
+//! A line is one of these. `integer LOW HIGH` and `real LOW HIGH` add a column, where `-` stands for no side; a new system
+//! begins behind each `rows`. `encode WORDS` encodes a constraint without a guard, and its answer is how many
 //! columns and rows there are then, or the fault. `rows` asks for the LP text of the system, and `points NUMBERS` for
 //! each of its points that begins with these numbers what stands behind them.
 //!
@@ -16,9 +16,9 @@
 #![tactic(auto)]
 
 mod cases;
+mod columns;
 mod formulas;
 mod points;
-mod sides;
 mod stack;
 mod stops;
 

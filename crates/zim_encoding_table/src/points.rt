@@ -1,6 +1,6 @@
 //! The points of a finished system that begin with given numbers, found by trying all others.
 
-use crate::sides::is_at_most;
+use crate::columns::is_at_most;
 use crate::stops::Stop;
 use std::alloc::Global;
 use zim_fraction::{Fraction, add, mul};

@@ -8,12 +8,13 @@ use Rattle.zim_answer.proofs.BindLemmas.{bind_gave}
 use Rattle.zim_fault.specs.declared.faults.Place.{Place}
 use Rattle.zim_fault.specs.declared.tokens.Join.{Join}
 use Rattle.zim_formula.specs.Ground.{term_number, related, joined_truths, chain_from, condition_holds}
-use Rattle.zim_formula.specs.GroundRules.{joined_hold, is_term_over, is_condition_over}
+use Rattle.zim_formula.specs.GroundRules.{joined_hold}
+use Rattle.zim_ground.specs.Listed.{term_passes, condition_passes}
 use Rattle.zim_formula.specs.declared.ground.GTerm.{GTerm}
 use Rattle.zim_formula.specs.declared.ground.GCond.{GCond}
 use Rattle.zim_formula.specs.declared.ground.GCond.TheVariants as ground_condition
 use Rattle.zim_formula.proofs.GroundLaws.{truth-Known, truth-Compare, truth-Chain, truth-Not}
-use Rattle.zim_formula.proofs.GroundRuleLaws.{over-condition-Known, over-condition-Compare, over-condition-Chain, over-condition-Not}
+use Rattle.zim_ground.proofs.ListedLaws.{passes-condition-Known, passes-condition-Compare, passes-condition-Chain, passes-condition-Not}
 use Rattle.zim_meaning.specs.Value.{value}
 use Rattle.zim_meaning.specs.declared.values.Value.{Value}
 use Rattle.zim_meaning.specs.declared.values.Value.TheVariants as of_value
@@ -26,7 +27,7 @@ use Rattle.zim_ground.specs.declared.operands.CondOperand.{CondOperand}
 use Rattle.zim_ground.specs.declared.operands.CondOperand.TheVariants as condition
 use Rattle.zim_ground.specs.Meaning.{truth_or_false, said_if_answered, known_truth, ConditionTruth, condition_truth_step, number_of_term, truth_of_condition}
 use Rattle.zim_ground.specs.Grounding.{grounding_of_term, ground_of_term, term_at, ConditionGround, condition_at, compared_terms, with_joined, chain_made, condition_ground_step, ground_of_condition}
-use Rattle.zim_ground.specs.Law.{AreAmong}
+use Rattle.zim_ground.specs.Law.{AllPass}
 use Rattle.zim_ground.proofs.TermLaws.{Setting, Says, term_gave, term_told}
 
 -- ---- what is owed
@@ -42,14 +43,14 @@ abbrev pub operand_truth : Setting → CondOperand → Bool
 operand_truth s (condition.Value v) = truth_or_false v
 operand_truth s (condition.Ground c) = condition_holds s.numbers c
 
--- whether an operand is over the columns from 1 to n and divides by no 0
-abbrev pub condition_over : ℕ → CondOperand → Bool
+-- whether the columns of an operand pass a test, and it divides by no 0
+abbrev pub condition_over : (ℕ → Bool) → CondOperand → Bool
 condition_over n (condition.Value v) = true
-condition_over n (condition.Ground c) = is_condition_over n c
+condition_over n (condition.Ground c) = condition_passes n c
 
 pub record SaysTruth (s : Setting) (b : Bool) (o : CondOperand) : Type 0 where
   pub truth : operand_truth s o ≡ b
-  pub over : AreAmong s.count s.columns → condition_over s.count o ≡ true
+  pub over : AllPass s.passes s.columns → condition_over s.passes o ≡ true
 
 abbrev pub Told : Setting → Cond → Type 0
 Told s c = (env : List Binding) (o : CondOperand) → ground_conditions s c env ≡ Ok o → SaysTruth s (truths s c env) o
@@ -67,7 +68,7 @@ known_is s env v c h = ap (said_if_answered false truth_or_false) h
 pub condition_gave : (s : Setting) (place : Place) (b : Bool) (o : CondOperand) (g : GCond) → SaysTruth s b o → condition_at place o ≡ Ok g → SaysTruth s b (condition.Ground g)
 condition_gave s place b (condition.Value (of_value.Truth p)) g says h =
     let e : ground_condition.Known p ≡ g = cc in
-    subst (λ (c : GCond). SaysTruth s b (condition.Ground c)) e (record { truth = truth-Known s.numbers p ∙ says.truth; over = λ among. over-condition-Known s.count p })
+    subst (λ (c : GCond). SaysTruth s b (condition.Ground c)) e (record { truth = truth-Known s.numbers p ∙ says.truth; over = λ among. passes-condition-Known s.passes p })
 condition_gave s place b (condition.Value (of_value.Number q)) g says h = cc
 condition_gave s place b (condition.Value (of_value.Text text)) g says h = cc
 condition_gave s place b (condition.Value (of_value.Set tuples)) g says h = cc
@@ -83,8 +84,8 @@ term_says s env t o h = term_told s t env o h
 pub record SaysTwo (s : Setting) (env : List Binding) (left right : Term) (l r : GTerm) : Type 0 where
   pub left_number : term_number s.numbers l ≡ number_of_term s.world s.assigned env left
   pub right_number : term_number s.numbers r ≡ number_of_term s.world s.assigned env right
-  pub left_over : AreAmong s.count s.columns → is_term_over s.count l ≡ true
-  pub right_over : AreAmong s.count s.columns → is_term_over s.count r ≡ true
+  pub left_over : AllPass s.passes s.columns → term_passes s.passes l ≡ true
+  pub right_over : AllPass s.passes s.columns → term_passes s.passes r ≡ true
 
 -- the two terms of a comparison
 pub compared_told : (s : Setting) (env : List Binding) (place : Place) (left right : Term) (terms : GTerm × GTerm) → compared_terms s.world s.columns env place left right ≡ Ok terms → SaysTwo s env left right terms.0 terms.1
@@ -108,8 +109,8 @@ ranged_told s env place t o g o_is g_is = term_gave s place _ o g (term_says s e
 abbrev truth_operands : Setting → List (Place × Join × GCond) → List (Place × Join × Bool)
 truth_operands s gs = map (λ (c : Place × Join × GCond). (c.0, c.1, condition_holds s.numbers c.2)) gs
 
-abbrev over_operands : ℕ → List (Place × Join × GCond) → List (Place × Join × Bool)
-over_operands n gs = map (λ (c : Place × Join × GCond). (c.0, c.1, is_condition_over n c.2)) gs
+abbrev over_operands : (ℕ → Bool) → List (Place × Join × GCond) → List (Place × Join × Bool)
+over_operands n gs = map (λ (c : Place × Join × GCond). (c.0, c.1, condition_passes n c.2)) gs
 
 chain_append : (b : Bool) (cs ds : List (Place × Join × Bool)) → chain_from b (cs ++ ds) ≡ chain_from (chain_from b cs) ds
 unfolding chain_from
@@ -131,8 +132,8 @@ holds_append (c ∷ cs) ds h k = let p = and_parts c.2 (joined_hold cs) h in bot
 
 record SaysChain (s : Setting) (b : Bool) (c : GCond) (gs : List (Place × Join × GCond)) : Type 0 where
   pub truth : chain_from (condition_holds s.numbers c) (truth_operands s gs) ≡ b
-  pub first : AreAmong s.count s.columns → is_condition_over s.count c ≡ true
-  pub others : AreAmong s.count s.columns → joined_hold (over_operands s.count gs) ≡ true
+  pub first : AllPass s.passes s.columns → condition_passes s.passes c ≡ true
+  pub others : AllPass s.passes s.columns → joined_hold (over_operands s.passes gs) ≡ true
 
 begun : (s : Setting) (b : Bool) (c : GCond) → SaysTruth s b (condition.Ground c) → SaysChain s b c []
 unfolding chain_from joined_hold
@@ -148,14 +149,14 @@ one_more s b d c gs place join g says more = record {
   first = says.first;
   others =
       λ among.
-      ap joined_hold (map-append (λ (u : Place × Join × GCond). (u.0, u.1, is_condition_over s.count u.2)) gs ((place, join, g) ∷ []))
-      ∙ holds_append (over_operands s.count gs) ((place, join, is_condition_over s.count g) ∷ []) (says.others among) (one_holds place join (is_condition_over s.count g) (more.over among));
+      ap joined_hold (map-append (λ (u : Place × Join × GCond). (u.0, u.1, condition_passes s.passes u.2)) gs ((place, join, g) ∷ []))
+      ∙ holds_append (over_operands s.passes gs) ((place, join, condition_passes s.passes g) ∷ []) (says.others among) (one_holds place join (condition_passes s.passes g) (more.over among));
 }
 
 chain_made_says : (s : Setting) (b : Bool) (c : GCond) (gs : List (Place × Join × GCond)) → SaysChain s b c gs → SaysTruth s b (condition.Ground (ground_condition.Chain c gs))
 chain_made_says s b c gs says = record {
   truth = truth-Chain s.numbers c gs ∙ says.truth;
-  over = λ among. over-condition-Chain s.count c gs ∙ both_true (says.first among) (says.others among);
+  over = λ among. passes-condition-Chain s.passes c gs ∙ both_true (says.first among) (says.others among);
 }
 
 abbrev bare_operands : (s : Setting) → List (Place × Join × Part s) → List (Place × Join × Cond)
@@ -223,7 +224,7 @@ inner s (Cond-F.Compare place relation left right) env o h =
     subst (SaysTruth s (related relation (number_of_term s.world s.assigned env left) (number_of_term s.world s.assigned env right))) e
     (record {
       truth = truth-Compare s.numbers place relation terms.0 terms.1 ∙ ap₂ (related relation) both.left_number both.right_number;
-      over = λ among. over-condition-Compare s.count place relation terms.0 terms.1 ∙ both_true (both.left_over among) (both.right_over among);
+      over = λ among. passes-condition-Compare s.passes place relation terms.0 terms.1 ∙ both_true (both.left_over among) (both.right_over among);
     })
 inner s (Cond-F.Chain first others) env o h =
     let (c, c_is, rest) = bind_gave (ground_conditions s first.0 env) _ o h in
@@ -238,7 +239,7 @@ inner s (Cond-F.Not place operand) env o h =
     subst (SaysTruth s (not (truths s operand.0 env))) e
     (record {
       truth = truth-Not s.numbers place g ∙ ap not part.truth;
-      over = λ among. over-condition-Not s.count place g ∙ part.over among;
+      over = λ among. passes-condition-Not s.passes place g ∙ part.over among;
     })
 
 layer : (s : Setting) (y : Cond-F (Part s)) → Told s (roll-Cond (bare s y))

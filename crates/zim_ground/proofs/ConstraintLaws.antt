@@ -11,12 +11,13 @@ use Rattle.zim_fault.specs.declared.faults.Place.{Place}
 use Rattle.zim_fault.specs.declared.tokens.Relation.{Relation}
 use Rattle.zim_fault.specs.declared.tokens.Relation.TheVariants.{LessThan, AtMost, EqualTo, NotEqualTo, AtLeast, GreaterThan}
 use Rattle.zim_formula.specs.Ground.{related, all_hold, otherwise_holds, condition_holds, constraint_holds}
-use Rattle.zim_formula.specs.GroundRules.{is_constraint_over, is_row_relation, is_range_relation}
+use Rattle.zim_formula.specs.GroundRules.{is_row_relation, is_range_relation}
+use Rattle.zim_ground.specs.Listed.{constraint_passes}
 use Rattle.zim_formula.specs.declared.ground.GCond.{GCond}
 use Rattle.zim_formula.specs.declared.ground.GCon.{GCon}
 use Rattle.zim_formula.specs.declared.ground.GCon.TheVariants as ground_constraint
 use Rattle.zim_formula.proofs.GroundLaws.{asked-Compare, asked-Range, asked-And, asked-Vif}
-use Rattle.zim_formula.proofs.GroundRuleLaws.{over-constraint-Compare, over-constraint-Range, over-constraint-And, over-constraint-Vif}
+use Rattle.zim_ground.proofs.ListedLaws.{passes-constraint-Compare, passes-constraint-Range, passes-constraint-And, passes-constraint-Vif}
 use Rattle.zim_meaning.specs.Operations.{number_of_value}
 use Rattle.zim_meaning.specs.Value.{value, index_choices}
 use Rattle.zim_meaning.specs.World.{at_place}
@@ -32,7 +33,7 @@ use Rattle.zim_typed.specs.Suits.{SuitsCon, SuitsOtherwise, ConsSuit, suits_cons
 use Rattle.zim_typed.specs.Terms.{may_constrain, may_enclose}
 use Rattle.zim_ground.specs.Meaning.{known_number, known_truth, number_of_term, truth_of_condition, ConstraintTruth, constraint_truth_step, truth_of_constraint}
 use Rattle.zim_ground.specs.Grounding.{truth_known, ground_of_term, term_at, compared_terms, condition_at, ground_of_condition, ConstraintGround, with_part, with_chosen_part, part_or_nothing, second_part, constraint_ground_step, ground_of_constraint, constraint_answer}
-use Rattle.zim_ground.specs.Law.{AreAmong}
+use Rattle.zim_ground.specs.Law.{AllPass}
 use Rattle.zim_ground.proofs.TermLaws.{Setting, known_gave, truth_gave, choices_gave}
 use Rattle.zim_ground.proofs.ConditionLaws.{condition_gave, condition_says, compared_told, ranged_told}
 
@@ -132,7 +133,7 @@ truths s = fold-Con ConstraintTruth (constraint_truth_step s.world s.assigned)
 
 pub record Says (s : Setting) (b rows : Bool) (g : GCon) : Type 0 where
   pub truth : constraint_holds s.numbers g ≡ b
-  pub over : AreAmong s.count s.columns → rows ≡ true → is_constraint_over s.count g ≡ true
+  pub over : AllPass s.passes s.columns → rows ≡ true → constraint_passes s.passes g ≡ true
 
 abbrev pub Told : Setting → Con → Type 0
 Told s c = (env : List Binding) (g : GCon) → ground_constraints s c env ≡ Ok g → Says s (truths s c env) (compares_as_rows c) g
@@ -144,7 +145,7 @@ Part s = (c : Con) × Told s c
 
 record SaysParts (s : Setting) (bs : List Bool) (rows : Bool) (gs : List GCon) : Type 0 where
   pub truth : map (constraint_holds s.numbers) gs ≡ bs
-  pub over : AreAmong s.count s.columns → rows ≡ true → all_hold (map (is_constraint_over s.count) gs) ≡ true
+  pub over : AllPass s.passes s.columns → rows ≡ true → all_hold (map (constraint_passes s.passes) gs) ≡ true
 
 all_append : (bs : List Bool) (b : Bool) → all_hold bs ≡ true → b ≡ true → all_hold (bs ++ b ∷ []) ≡ true
 unfolding all_hold
@@ -156,8 +157,8 @@ part_more s bs b before one both gs g first second says more = record {
   truth = map-append (constraint_holds s.numbers) gs (g ∷ []) ∙ ap₂ (λ (cs : List Bool) (c : Bool). cs ++ c ∷ []) says.truth more.truth;
   over =
       λ among rows.
-      ap all_hold (map-append (is_constraint_over s.count) gs (g ∷ []))
-      ∙ all_append (map (is_constraint_over s.count) gs) (is_constraint_over s.count g) (says.over among (first rows)) (more.over among (second rows));
+      ap all_hold (map-append (constraint_passes s.passes) gs (g ∷ []))
+      ∙ all_append (map (constraint_passes s.passes) gs) (constraint_passes s.passes g) (says.over among (first rows)) (more.over among (second rows));
 }
 
 no_part : (s : Setting) (rows : Bool) → SaysParts s [] rows []
@@ -166,7 +167,7 @@ no_part s rows = record { truth = refl; over = λ among h. none_holds }
 and_says : (s : Setting) (bs : List Bool) (rows : Bool) (gs : List GCon) → SaysParts s bs rows gs → Says s (all_hold bs) rows (ground_constraint.And gs)
 and_says s bs rows gs says = record {
   truth = asked-And s.numbers gs ∙ ap all_hold says.truth;
-  over = λ among h. over-constraint-And s.count gs ∙ says.over among h;
+  over = λ among h. passes-constraint-And s.passes gs ∙ says.over among h;
 }
 
 append_assoc : (ps : List Bool) (q : Bool) (qs : List Bool) → ps ++ q ∷ qs ≡ (ps ++ q ∷ []) ++ qs
@@ -253,13 +254,13 @@ otherwise_told : (s : Setting) (env : List Binding) (c : Option (Part s)) (g : G
 unfolding otherwise_holds all_hold
 otherwise_told s env None g h =
     let e : ground_constraint.And [] ≡ g = cc in
-    subst (Says s true true) e (record { truth = asked-And s.numbers [] ∙ none_holds; over = λ among rows. over-constraint-And s.count [] ∙ none_holds })
+    subst (Says s true true) e (record { truth = asked-And s.numbers [] ∙ none_holds; over = λ among rows. passes-constraint-And s.passes [] ∙ none_holds })
 otherwise_told s env (Some c) g h = c.1 env g h
 
 -- the second part of a `vif`
 record SaysSecond (s : Setting) (b rows : Bool) (g : Option GCon) : Type 0 where
   pub truth : otherwise_holds (option_map (constraint_holds s.numbers) g) ≡ b
-  pub over : AreAmong s.count s.columns → rows ≡ true → otherwise_holds (option_map (is_constraint_over s.count) g) ≡ true
+  pub over : AllPass s.passes s.columns → rows ≡ true → otherwise_holds (option_map (constraint_passes s.passes) g) ≡ true
 
 second_told : (s : Setting) (env : List Binding) (c : Option (Part s)) (g : Option GCon) → second_part env (option_map (ground_constraints s) (bare_second s c)) ≡ Ok g → SaysSecond s (second_truth s env c) (second_rows s c) g
 unfolding otherwise_holds
@@ -325,7 +326,7 @@ vif_told s env place test branch otherwise g h =
       over =
           λ among rows.
           let both = and_parts (compares_as_rows branch.0) (second_rows s otherwise) rows in
-          over-constraint-Vif s.count place d first second ∙ both_true (both_true (tested.over among) (then_says.over among both.0)) (else_says.over among both.1);
+          passes-constraint-Vif s.passes place d first second ∙ both_true (both_true (tested.over among) (then_says.over among both.0)) (else_says.over among both.1);
     })
 
 -- what each form of a constraint says, by what its parts do
@@ -338,7 +339,7 @@ inner s (Con-F.Compare place relation left right) env g h =
     subst (Says s (related relation (number_of_term s.world s.assigned env left) (number_of_term s.world s.assigned env right)) (is_row_relation relation)) e
     (record {
       truth = asked-Compare s.numbers place relation terms.0 terms.1 ∙ ap₂ (related relation) both.left_number both.right_number;
-      over = λ among rows. over-constraint-Compare s.count place relation terms.0 terms.1 ∙ both_true (both_true rows (both.left_over among)) (both.right_over among);
+      over = λ among rows. passes-constraint-Compare s.passes place relation terms.0 terms.1 ∙ both_true (both_true rows (both.left_over among)) (both.right_over among);
     })
 inner s (Con-F.Range place relation first term last) env g h =
     let (v, v_is, one) = bind_gave (value s.world env first) _ g h in
@@ -357,7 +358,7 @@ inner s (Con-F.Range place relation first term last) env g h =
       truth =
           asked-Range s.numbers place relation a t b
           ∙ ap₂ (λ (p q : Bool). p && q) (ap₂ (related relation) low says.number) (ap₂ (related relation) says.number high);
-      over = λ among rows. over-constraint-Range s.count place relation a t b ∙ both_true rows (says.over among);
+      over = λ among rows. passes-constraint-Range s.passes place relation a t b ∙ both_true rows (says.over among);
     })
 inner s (Con-F.And parts) env g h =
     let (gs, gs_are, end) = bind_gave (goes (with_part env) [] (ground_parts s parts)) _ g h in
@@ -391,5 +392,5 @@ unfolding ground_of_constraint truth_of_constraint
 constraint_says s c g h = constraint_told s c [] g h
 
 -- where the constraint suits its scope
-pub suited_over : (s : Setting) {scope : Scope} {names : Names} (c : Con) (g : GCon) → SuitsCon scope names c → AreAmong s.count s.columns → constraint_answer s.world s.columns c ≡ Ok g → is_constraint_over s.count g ≡ true
+pub suited_over : (s : Setting) {scope : Scope} {names : Names} (c : Con) (g : GCon) → SuitsCon scope names c → AllPass s.passes s.columns → constraint_answer s.world s.columns c ≡ Ok g → constraint_passes s.passes g ≡ true
 suited_over s c g suits among h = (constraint_says s c g h).over among (suits_rows suits)

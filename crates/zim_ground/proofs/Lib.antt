@@ -1,3 +1,4 @@
+pub mod ListedLaws
 pub mod TermLaws
 pub mod ConditionLaws
 pub mod ConstraintLaws

@@ -8,11 +8,12 @@ use Rattle.zim_answer.proofs.BindLemmas.{bind_gave}
 use Rattle.zim_fault.specs.declared.faults.Place.{Place}
 use Rattle.zim_fault.specs.declared.kinds.Kind.TheVariants.{DivZero}
 use Rattle.zim_formula.specs.Ground.{sum_from, product_from, with_factor, term_number, all_hold}
-use Rattle.zim_formula.specs.GroundRules.{divides, operands_hold, is_term_over}
+use Rattle.zim_formula.specs.GroundRules.{divides, operands_hold}
+use Rattle.zim_ground.specs.Listed.{term_passes}
 use Rattle.zim_formula.specs.declared.ground.GTerm.{GTerm}
 use Rattle.zim_formula.specs.declared.ground.GTerm.TheVariants as ground_term
 use Rattle.zim_formula.proofs.GroundLaws.{number-Known, number-Column, number-Sum, number-Product, number-Minus, number-SumOver, number-Abs}
-use Rattle.zim_formula.proofs.GroundRuleLaws.{over-term-Known, over-term-Column, over-term-Sum, over-term-Product, over-term-Minus, over-term-SumOver, over-term-Abs}
+use Rattle.zim_ground.proofs.ListedLaws.{passes-term-Known, passes-term-Column, passes-term-Sum, passes-term-Product, passes-term-Minus, passes-term-SumOver, passes-term-Abs}
 use Rattle.zim_linear.specs.Forms.{ColumnNumbers}
 use Rattle.zim_meaning.specs.Expressions.{tuple_of_parts}
 use Rattle.zim_meaning.specs.Operations.{number_of_value, truth_of_value}
@@ -33,7 +34,7 @@ use Rattle.zim_ground.specs.declared.operands.TermOperand.{TermOperand}
 use Rattle.zim_ground.specs.declared.operands.TermOperand.TheVariants as operand
 use Rattle.zim_ground.specs.Meaning.{Assignment, number_or_zero, truth_or_false, said_if_answered, known_number, known_truth, known_index, chosen_environments, TermNumber, term_number_step, number_of_term}
 use Rattle.zim_ground.specs.Grounding.{Columns, truth_known, TermGround, term_at, with_added_term, summed, multiplied_first, multiplier, with_multiplier, product_made, with_chosen_term, term_ground_step, grounding_of_term, objective_answer}
-use Rattle.zim_ground.specs.Law.{Agree, AreAmong}
+use Rattle.zim_ground.specs.Law.{Agree, AllPass}
 
 -- ---- what is owed
 
@@ -43,7 +44,7 @@ pub record Setting : Type 0 where
   pub columns : Columns
   pub assigned : Assignment
   pub numbers : ColumnNumbers
-  pub count : ℕ
+  pub passes : ℕ → Bool
   pub agree : Agree columns numbers assigned
 
 abbrev pub grounds : Setting → Term → TermGround
@@ -57,14 +58,14 @@ abbrev pub operand_number : ColumnNumbers → TermOperand → Rational
 operand_number x (operand.Value v) = number_or_zero v
 operand_number x (operand.Ground t) = term_number x t
 
--- whether an operand is over the columns from 1 to n and divides by no 0
-abbrev pub operand_over : ℕ → TermOperand → Bool
+-- whether the columns of an operand pass a test, and it divides by no 0
+abbrev pub operand_over : (ℕ → Bool) → TermOperand → Bool
 operand_over n (operand.Value v) = true
-operand_over n (operand.Ground t) = is_term_over n t
+operand_over n (operand.Ground t) = term_passes n t
 
 pub record Says (s : Setting) (q : Rational) (o : TermOperand) : Type 0 where
   pub number : operand_number s.numbers o ≡ q
-  pub over : AreAmong s.count s.columns → operand_over s.count o ≡ true
+  pub over : AllPass s.passes s.columns → operand_over s.passes o ≡ true
 
 abbrev pub Told : Setting → Term → Type 0
 Told s t = (env : List Binding) (o : TermOperand) → (grounds s t).ground env ≡ Ok o → Says s (numbers s t env) o
@@ -117,7 +118,7 @@ entry_gave place (Some i) j h = let e : i ≡ j = cc in ap (λ (k : ℕ). Some k
 pub term_gave : (s : Setting) (place : Place) (q : Rational) (o : TermOperand) (g : GTerm) → Says s q o → term_at place o ≡ Ok g → Says s q (operand.Ground g)
 term_gave s place q (operand.Value (of_value.Number p)) g says h =
     let e : ground_term.Known p ≡ g = cc in
-    subst (λ (t : GTerm). Says s q (operand.Ground t)) e (record { number = number-Known s.numbers p ∙ says.number; over = λ among. over-term-Known s.count p })
+    subst (λ (t : GTerm). Says s q (operand.Ground t)) e (record { number = number-Known s.numbers p ∙ says.number; over = λ among. passes-term-Known s.passes p })
 term_gave s place q (operand.Value (of_value.Text text)) g says h = cc
 term_gave s place q (operand.Value (of_value.Truth truth)) g says h = cc
 term_gave s place q (operand.Value (of_value.Set tuples)) g says h = cc
@@ -130,8 +131,8 @@ term_gave s place q (operand.Ground t) g says h =
 abbrev number_operands : ColumnNumbers → List (Place × Bool × GTerm) → List (Place × Bool × Rational)
 number_operands x gs = map (λ (t : Place × Bool × GTerm). (t.0, t.1, term_number x t.2)) gs
 
-abbrev over_operands : ℕ → List (Place × Bool × GTerm) → List (Place × Bool × Bool)
-over_operands n gs = map (λ (t : Place × Bool × GTerm). (t.0, t.1, is_term_over n t.2)) gs
+abbrev over_operands : (ℕ → Bool) → List (Place × Bool × GTerm) → List (Place × Bool × Bool)
+over_operands n gs = map (λ (t : Place × Bool × GTerm). (t.0, t.1, term_passes n t.2)) gs
 
 abbrev added : Bool → Rational → Rational → Rational
 added turned p q = if turned then minus p q else plus p q
@@ -156,8 +157,8 @@ holds_append (t ∷ ts) us h k = let p = and_parts t.2 (operands_hold ts) h in b
 
 record SaysSum (s : Setting) (q : Rational) (t : GTerm) (gs : List (Place × Bool × GTerm)) : Type 0 where
   pub number : sum_from (term_number s.numbers t) (number_operands s.numbers gs) ≡ q
-  pub first : AreAmong s.count s.columns → is_term_over s.count t ≡ true
-  pub others : AreAmong s.count s.columns → operands_hold (over_operands s.count gs) ≡ true
+  pub first : AllPass s.passes s.columns → term_passes s.passes t ≡ true
+  pub others : AllPass s.passes s.columns → operands_hold (over_operands s.passes gs) ≡ true
 
 begun : (s : Setting) (q : Rational) (t : GTerm) → Says s q (operand.Ground t) → SaysSum s q t []
 unfolding sum_from operands_hold
@@ -173,14 +174,14 @@ one_more s q v t gs place turned g says more = record {
   first = says.first;
   others =
       λ among.
-      ap operands_hold (map-append (λ (u : Place × Bool × GTerm). (u.0, u.1, is_term_over s.count u.2)) gs ((place, turned, g) ∷ []))
-      ∙ holds_append (over_operands s.count gs) ((place, turned, is_term_over s.count g) ∷ []) (says.others among) (one_holds place turned (is_term_over s.count g) (more.over among));
+      ap operands_hold (map-append (λ (u : Place × Bool × GTerm). (u.0, u.1, term_passes s.passes u.2)) gs ((place, turned, g) ∷ []))
+      ∙ holds_append (over_operands s.passes gs) ((place, turned, term_passes s.passes g) ∷ []) (says.others among) (one_holds place turned (term_passes s.passes g) (more.over among));
 }
 
 summed_says : (s : Setting) (q : Rational) (t : GTerm) (gs : List (Place × Bool × GTerm)) → SaysSum s q t gs → Says s q (operand.Ground (ground_term.Sum t gs))
 summed_says s q t gs says = record {
   number = number-Sum s.numbers t gs ∙ says.number;
-  over = λ among. over-term-Sum s.count t gs ∙ both_true (says.first among) (says.others among);
+  over = λ among. passes-term-Sum s.passes t gs ∙ both_true (says.first among) (says.others among);
 }
 
 abbrev bare_operands : (s : Setting) → List (Place × Bool × Part s) → List (Place × Bool × Term)
@@ -258,7 +259,7 @@ divisor_gave place true q p h = cc
 
 record SaysProduct (s : Setting) (q : Rational) (factor : Option (Rational × Place)) (t : GTerm) (ps : List (Place × Bool × Rational)) : Type 0 where
   pub number : product_from (with_factor factor (term_number s.numbers t)) ps ≡ q
-  pub term : AreAmong s.count s.columns → is_term_over s.count t ≡ true
+  pub term : AllPass s.passes s.columns → term_passes s.passes t ≡ true
   pub others : divides ps ≡ true
 
 multiplied_more : (s : Setting) (q p : Rational) (factor : Option (Rational × Place)) (t : GTerm) (ps : List (Place × Bool × Rational)) (place : Place) (divided : Bool) → SaysProduct s q factor t ps → not (divided && same p zero) ≡ true
@@ -275,7 +276,7 @@ multiplied_more s q p factor t ps place divided says sound = record {
 product_says : (s : Setting) (q : Rational) (factor : Option (Rational × Place)) (t : GTerm) (ps : List (Place × Bool × Rational)) → SaysProduct s q factor t ps → Says s q (operand.Ground (ground_term.Product factor t ps))
 product_says s q factor t ps says = record {
   number = number-Product s.numbers factor t ps ∙ says.number;
-  over = λ among. over-term-Product s.count factor t ps ∙ both_true (says.term among) says.others;
+  over = λ among. passes-term-Product s.passes factor t ps ∙ both_true (says.term among) says.others;
 }
 
 abbrev known_factors : World → List Binding → List (Place × Bool × Const) → List (Place × Bool × Rational)
@@ -350,7 +351,7 @@ product_told s env (c ∷ cs) o q final says h =
 
 record SaysMembers (s : Setting) (qs : List Rational) (gs : List GTerm) : Type 0 where
   pub number : map (term_number s.numbers) gs ≡ qs
-  pub over : AreAmong s.count s.columns → all_hold (map (is_term_over s.count) gs) ≡ true
+  pub over : AllPass s.passes s.columns → all_hold (map (term_passes s.passes) gs) ≡ true
 
 all_append : (bs : List Bool) (b : Bool) → all_hold bs ≡ true → b ≡ true → all_hold (bs ++ b ∷ []) ≡ true
 unfolding all_hold
@@ -360,7 +361,7 @@ all_append (c ∷ bs) b h k = let p = and_parts c (all_hold bs) h in both_true p
 member_more : (s : Setting) (qs : List Rational) (q : Rational) (gs : List GTerm) (g : GTerm) → SaysMembers s qs gs → Says s q (operand.Ground g) → SaysMembers s (qs ++ q ∷ []) (gs ++ g ∷ [])
 member_more s qs q gs g says more = record {
   number = map-append (term_number s.numbers) gs (g ∷ []) ∙ ap₂ (λ (ps : List Rational) (p : Rational). ps ++ p ∷ []) says.number more.number;
-  over = λ among. ap all_hold (map-append (is_term_over s.count) gs (g ∷ [])) ∙ all_append (map (is_term_over s.count) gs) (is_term_over s.count g) (says.over among) (more.over among);
+  over = λ among. ap all_hold (map-append (term_passes s.passes) gs (g ∷ [])) ∙ all_append (map (term_passes s.passes) gs) (term_passes s.passes g) (says.over among) (more.over among);
 }
 
 abbrev numbers_chosen : (s : Setting) → Part s → List Choice → List Rational
@@ -416,7 +417,7 @@ inner s (Term-F.Column place name index) env o h =
     subst (Says s (s.assigned name (known_index s.world env index))) e
     (record {
       number = number-Column s.numbers j ∙ s.agree name tuple j found ∙ ap (s.assigned name) (sym (index_gave s.world env index tuple tuple_is));
-      over = λ among. over-term-Column s.count j ∙ among name tuple j found;
+      over = λ among. passes-term-Column s.passes j ∙ among name tuple j found;
     })
 inner s (Term-F.Sum first others) env o h =
     let (t, t_is, rest) = bind_gave ((grounds s first.0).ground env) _ o h in
@@ -455,7 +456,7 @@ inner s (Term-F.Minus place term) env o h =
     subst (Says s (negate (numbers s term.0 env))) e
     (record {
       number = number-Minus s.numbers place g ∙ ap negate part.number;
-      over = λ among. over-term-Minus s.count place g ∙ part.over among;
+      over = λ among. passes-term-Minus s.passes place g ∙ part.over among;
     })
 inner s (Term-F.SumOver place index term) env o h =
     let (choices, choices_are, rest) = bind_gave (index_choices s.world env index) _ o h in
@@ -465,7 +466,7 @@ inner s (Term-F.SumOver place index term) env o h =
     subst (Says s (total (map (numbers s term.0) (chosen_environments s.world env index)))) e
     (record {
       number = number-SumOver s.numbers place members ∙ ap total (says.number ∙ ap (map (numbers s term.0)) (sym (choices_gave s.world env index choices choices_are)));
-      over = λ among. over-term-SumOver s.count place members ∙ says.over among;
+      over = λ among. passes-term-SumOver s.passes place members ∙ says.over among;
     })
 inner s (Term-F.If place test branch otherwise) env o h =
     let (b, b_is, rest) = bind_gave (truth_known s.world env place test) _ o h in
@@ -483,7 +484,7 @@ inner s (Term-F.Abs place term) env o h =
     subst (Says s (absolute (numbers s term.0 env))) e
     (record {
       number = number-Abs s.numbers place g ∙ ap absolute part.number;
-      over = λ among. over-term-Abs s.count place g ∙ part.over among;
+      over = λ among. passes-term-Abs s.passes place g ∙ part.over among;
     })
 
 layer : (s : Setting) (y : Term-F (Part s)) → Told s (roll-Term (bare s y))

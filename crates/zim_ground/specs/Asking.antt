@@ -137,7 +137,7 @@ ask_at world name parts (tuple, env) = do
 -- ---- the columns of a statement
 
 -- the indices of a variable with the environments in which it is asked what the statement says of them: the empty index without brackets, else the
--- choices of the index, or the tuples of the set, which is wrong at the statement's name if it is none
+-- choices of the index, or the tuples of the set, which is wrong at the statement's name if it is none; empty brackets, which no `var` has, give none
 abbrev pub asked_indices : World → Place → Option TBracket → Answer (List (List Elem × List Binding)) Fault
 asked_indices world at None = Ok (([], []) ∷ [])
 asked_indices world at (Some bracket.Empty) = Ok []

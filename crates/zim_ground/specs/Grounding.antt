@@ -77,7 +77,7 @@ abbrev pub factor_value : World → List Binding → Option (Const × Place) →
 factor_value world env None = Ok None
 factor_value world env (Some (c, place)) = value world env c >>= λ v. Ok (Some (v, place))
 
--- a term and the factor before it, which is applied as soon as the term is there
+-- a term and the factor before it, if there is one, which is applied as soon as the term is there
 abbrev pub multiplied_first : Option (Value × Place) → TermOperand → Answer (Option (Rational × Place) × TermOperand) Fault
 multiplied_first None t = Ok (None, t)
 multiplied_first (Some (v, place)) t = do
@@ -89,7 +89,7 @@ multiplied_first (Some (v, place)) t = do
 abbrev pub multiplier : Bool → Rational → Result Rational Kind
 multiplier divides q = if divides && same q zero then Err DivZero else Ok q
 
--- a term and the numbers so far that it is multiplied_first by, and one more
+-- a term and the numbers so far by which it is multiplied or divided, and one more
 abbrev pub with_multiplier : World → List Binding → TermOperand × List (Place × Bool × Rational) → Place × Bool × Const → Answer (TermOperand × List (Place × Bool × Rational)) Fault
 with_multiplier world env (t, others) (place, divides, c) = do
   v ← value world env c

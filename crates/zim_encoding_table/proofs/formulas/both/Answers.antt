@@ -1,5 +1,5 @@
 -- What is made of parts over some columns is over them.
-use Rattle.std.proofs.Common.{refl, arith}
+use Rattle.std.proofs.Common.{refl}
 use Rattle.zim_encoding_table.proofs.OverLemmas.{alone, two, constraint_here, both_over}
 use Rattle.zim_encoding_table.proofs.formulas.both.Goals as goal
 

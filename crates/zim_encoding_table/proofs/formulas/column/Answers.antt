@@ -1,5 +1,4 @@
 -- What is made of parts over some columns is over them.
-use Rattle.std.proofs.Common.{refl, arith}
 use Rattle.zim_encoding_table.proofs.OverLemmas.{column_over}
 use Rattle.zim_encoding_table.proofs.formulas.column.Goals as goal
 

@@ -1,5 +1,5 @@
 -- What is made of parts over some columns is over them.
-use Rattle.std.proofs.Common.{refl, arith}
+use Rattle.std.proofs.Common.{refl}
 use Rattle.zim_encoding_table.proofs.OverLemmas.{condition_here, constraint_here, one_picked_over}
 use Rattle.zim_encoding_table.proofs.formulas.picked_of_two.Goals as goal
 

@@ -1,5 +1,5 @@
 -- The order of two numbers says whether the first isn't above the second.
-use Rattle.std.proofs.Common.{◌≡◌, false, sym, ap, ◌∙◌, subst}
+use Rattle.std.proofs.Common.{◌≡◌, false, sym, ◌∙◌, subst}
 use Rattle.std.specs.declared.cmp.Ordering.{Ordering}
 use Rattle.std.specs.declared.cmp.Ordering.TheVariants.{Less, Equal, Greater}
 use Rattle.std.specs.Ordering.{MatchOrdering}
@@ -7,7 +7,7 @@ use Rattle.std.proofs.lemmas.Bool.{false_from_ne_true}
 use Rattle.zim_rational.specs.Rational.{Rational, IsAtMost, IsBelow, at_most, rational_cmp}
 use Rattle.zim_rational.proofs.Compare.{rational_cmp-match}
 use Rattle.zim_rational.proofs.Order.{at_most_refl, at_most_below, below_at_most, below_different}
-use Rattle.zim_encoding_table.proofs.sides.is_at_most.Goals as goal
+use Rattle.zim_encoding_table.proofs.columns.is_at_most.Goals as goal
 
 matched : (a b : Rational) (o : Ordering) → rational_cmp a b ≡ o → MatchOrdering o (IsBelow a b) (a ≡ b) (IsBelow b a)
 matched a b o e = subst (λ (p : Ordering). MatchOrdering p (IsBelow a b) (a ≡ b) (IsBelow b a)) e (rational_cmp-match a b)
