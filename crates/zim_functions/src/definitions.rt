@@ -1,5 +1,5 @@
 //! The functions that a model defines.
-ghost use Rattle.std.specs.Prelude.{◌≡◌, [], ◌∷◌, ◌++◌, None, OnOk, OnErr, nat_eq, position, slice_get, option_copied};
+ghost use Rattle.std.specs.Prelude.{◌≡◌, [], ◌∷◌, ◌++◌, None, OnOk, OnErr, length, nat_eq, position, slice_get, option_copied};
 ghost use Rattle.std.specs.Cmp.Lexicographic.{pointwise};
 ghost use Rattle.zim_functions.specs.Definitions.{defined, defined_names, AreNamesDistinct};
 
@@ -64,6 +64,13 @@ impl Defs {
         let name = definition.name.copy()?;
         self.kept.insert(name, definition)?;
         Ok(())
+    }
+
+    /// How many functions there are.
+    pub fn len(&self) -> usize
+        ensures { result ≡ length self.now }
+    {
+        self.kept.len()
     }
 
     /// The function of that name; None exactly where there is none.

@@ -21,3 +21,4 @@ pub mod TextLemmas
 pub mod TokenLemmas
 pub mod TokensLemmas
 pub mod TokensLaws
+pub mod TokenNumberLaws

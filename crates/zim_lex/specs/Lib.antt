@@ -15,6 +15,7 @@ pub mod Signs
 pub mod Spelled
 pub mod Statements
 pub mod Text
+pub mod TokenNumbers
 pub mod Tokens
 pub mod TokensLaw
 pub mod Unread

@@ -2,6 +2,7 @@ ghost use Rattle.std.specs.Prelude.{◌≡◌, ◌↔◌, ℕ, List, Ok, Err, So
 ghost use Rattle.zim_fault.specs.declared.kinds.Kind.{Kind};
 ghost use Rattle.zim_lex.specs.Cut.{IsCut, IsStuck, cut};
 ghost use Rattle.zim_lex.specs.Includes.{IsInclude, included};
+ghost use Rattle.zim_lex.specs.TokenNumbers.{LineNumbersAreKept};
 ghost use Rattle.zim_lex.specs.TokensLaw.{HaveTokensOrStick, HaveOneList, StickWithoutTokens, StickOnce};
 ghost use Rattle.zim_lex.specs.declared.lines.Line.{Line as OneLine};
 
@@ -32,4 +33,11 @@ pub fn lines_have_one_answer()
     ensures tokens { (lines : List OneLine) → HaveOneList lines }
     ensures either { (lines : List OneLine) → StickWithoutTokens lines }
     ensures stuck { (lines : List OneLine) → StickOnce lines }
+{}
+
+/// The numbers among the tokens of lines are number tokens: digits, with a point or an exponent or without.
+///
+/// A law for those who prove: the call does nothing.
+pub fn line_numbers_are_kept()
+    ensures { LineNumbersAreKept }
 {}

@@ -21,7 +21,9 @@ mod text;
 mod tokens;
 
 pub use faults::{LexFault, LoadFault};
-pub use laws::{cutting_is_exact, include_lines_are_exact, lines_have_one_answer};
+pub use laws::{
+    cutting_is_exact, include_lines_are_exact, line_numbers_are_kept, lines_have_one_answer,
+};
 pub use lines::{Line, Loaded, Span};
 pub use models::load;
 pub use spans::statements;

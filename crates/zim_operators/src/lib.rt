@@ -23,5 +23,5 @@ pub use kinds::{
 };
 pub use members::{projection, set_between, set_of_members};
 pub use operands::operated;
-pub use stop::Stop;
+pub use stop::{Stop, set_or_stop};
 pub use words::applied;

@@ -50,8 +50,8 @@ fn stop_of_set(fault: SetFault) -> Stop
     }
 }
 
-// A set as a value.
-pub(crate) fn set_or_stop(made: Result<TupleSet, SetFault>) -> Result<Value, Stop>
+/// What makes a set as the value that it is, or as the reason why there is none.
+pub fn set_or_stop(made: Result<TupleSet, SetFault>) -> Result<Value, Stop>
     ensures { (answer : Result (List (List Elem)) Kind) → Gives (λ set. set) set_cause answer made → Gives (λ value. value) stop_cause (set_or_fault answer) result }
 {
     match made {

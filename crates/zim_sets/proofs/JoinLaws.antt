@@ -82,6 +82,24 @@ picked a test set =
     let shape = common_shape [] a refl set.one_shape refl in
     joined [] (filter test a) (one_shape_from shape.0 (filter test a) (all_of_filter (same_shape shape.0) test a shape.2)) (distinct_filter same_tuple test a set.distinct) (omega arith)
 
+-- one tuple alone is a set
+pub one_is_set : (t : List Elem) → IsSet (t ∷ [])
+unfolding IsDistinct
+one_is_set t = record { few = omega arith; one_shape = refl; distinct = (tt, tt) }
+
+-- some of the tuples of a set, in order, are a set
+pub filter_is_set : (a : List (List Elem)) (test : List Elem → Bool) → IsSet a → IsSet (filter test a)
+filter_is_set a test set =
+    let shape = common_shape [] a refl set.one_shape refl in
+    let fewer : length (filter test a) ≤ length a = filter_shorter a in
+    record { few = omega (arith, set.few, fewer); one_shape = one_shape_from shape.0 (filter test a) (all_of_filter (same_shape shape.0) test a shape.2); distinct = distinct_filter same_tuple test a set.distinct }
+  where
+    filter_shorter : (xs : List (List Elem)) → length (filter test xs) ≤ length xs
+    filter_shorter [] = omega arith
+    filter_shorter (x ∷ xs) =
+        let rest = filter_shorter xs in
+        elim (test x) as (λ passes. length (cond passes (x ∷ filter test xs) (filter test xs)) ≤ length (x ∷ xs)) [ true ↦ omega (arith, rest) | false ↦ omega (arith, rest) ]
+
 pub without_made : (a b : List (List Elem)) → IsSet a → are_alike a b ≡ true → goes (inserted_where (λ t. beq (has b t) false)) [] a ≡ without_of a b
 unfolding without_of
 without_made a b set alike = goes_without b [] a ∙ picked a (λ t. not (has b t)) set ∙ sym (alike_made a b (those_not_in a b) alike)

@@ -45,8 +45,9 @@ impl TupleSet {
         }
     }
 
-    // The set of these tuples, in their order.
-    pub(crate) fn of_tuples(tuples: Sequence<Tuple>) -> TupleSet
+    /// The set of these tuples, in their order, which are known to be one: they are few enough, have one shape, and none
+    /// stands twice.
+    pub fn of_tuples(tuples: Sequence<Tuple>) -> TupleSet
         requires { IsSet tuples }
         ensures { result ≡ tuples }
     {

@@ -1,4 +1,4 @@
-ghost use Rattle.zim_static.specs.Law.{ConstantCalls, DefinitionNests};
+ghost use Rattle.zim_static.specs.Law.{ConstantCalls, DefinitionNests, DefinitionKeepsNesting};
 
 use zim_typed::constants_nest_as_their_trees;
 
@@ -7,6 +7,7 @@ use zim_typed::constants_nest_as_their_trees;
 pub fn definitions_nest_as_their_statements()
     ensures constant { ConstantCalls }
     ensures definition { DefinitionNests }
+    ensures kept { DefinitionKeepsNesting }
 {
     constants_nest_as_their_trees();
 }

@@ -25,6 +25,7 @@ mod varies;
 pub use around::{Around, bare_name, is_bare};
 pub use fault_in::is_bound;
 pub use law::definitions_nest_as_their_statements;
+pub use role::Role;
 pub use scope::Scope;
 pub use statements::static_fault;
 pub use varies::is_variable;

@@ -5,7 +5,7 @@ use zim_fault::Word;
 
 /// What may stand at some place.
 #[derive(Clone, Copy, Debug, PartialEq, Eq)]
-pub(crate) enum Role {
+pub enum Role {
     /// A value without variables.
     Value,
     /// A bound of a variable: a value without variables, or `infinity`.

@@ -28,7 +28,8 @@ use Rattle.zim_typed.specs.declared.statement.TLimit.{TLimit}
 use Rattle.zim_typed.specs.declared.statement.TReading.{TReading}
 use Rattle.zim_typed.specs.declared.statement.TDoing.{TDoing}
 use Rattle.zim_typed.specs.declared.statement.TPrinted.{TPrinted}
-use Rattle.zim_typed.specs.Scope.{Names, Scope, kind_of_name, takes}
+use Rattle.zim_typed.specs.Scope.{Text, Names, Scope, kind_of_name, takes}
+use Rattle.zim_typed.specs.Law.{IsNew}
 use Rattle.zim_typed.specs.Constants.{one_const}
 use Rattle.zim_typed.specs.Statements.{IsBound, AreLimits, IsGiven, AreOptions, IsReading, AreEntries, AreRows, IsTable, IsBrackets, IsSetSide, IsParam, ArePrinted, IsDoing, IsShape, IsTyped, is_value, is_infinity, is_signed_infinity, is_chosen, no_limit, one_limit, not_given, is_given, no_option, one_option, is_reading, no_entry, one_entry, no_row, one_row, is_table, no_brackets, loop_brackets, set_brackets, set_value, set_read, set_family, set_for_each, sets_listed, param_value, param_read, param_for_each, params_listed, params_in_table, params_read, param_default, none_printed, value_printed, tuple_printed, do_print, do_check, do_forall, is_set, is_param, is_var, is_goal, is_subto, is_definition, is_do, is_typed}
 use Rattle.zim_typed.specs.SuitsStatement.{SuitsBound, LimitsSuit, SuitsGiven, OptionsSuit, SuitsReading, EntriesSuit, RowsSuit, SuitsTable, SuitsSet, SuitsParam, SuitsBrackets, PrintedSuit, SuitsDoing, SuitsShape, SuitsStatement, suits_value, suits_infinity, suits_signed_infinity, suits_chosen, suits_no_limit, suits_one_limit, suits_not_given, suits_given, suits_no_option, suits_one_option, suits_reading, suits_no_entry, suits_one_entry, suits_no_row, suits_one_row, suits_table, suits_set_value, suits_set_read, suits_family, suits_set_for_each, suits_sets_listed, suits_param_value, suits_param_read, suits_param_for_each, suits_params_listed, suits_params_in_table, suits_params_read, suits_default, suits_no_brackets, suits_loop_brackets, suits_set_brackets, suits_none_printed, suits_value_printed, suits_tuple_printed, suits_print, suits_check, suits_do_forall, suits_set, suits_param, suits_var, suits_goal, suits_subto, suits_definition, suits_declaration, suits_do}
@@ -141,6 +142,15 @@ shape_suits (made_goal maximize made) (is_goal m t) = suits_goal m (term_suits t
 shape_suits (made_subto made) (is_subto c) = suits_subto (con_suits c)
 shape_suits (made_definition word parameters is made) (is_definition w ps c) = suits_definition ps is (const_suits c)
 
-pub statement_suits : {scope : Scope} {stmt : Stmt} {typed : TStmt} → MadeStatement stmt → kind_of_name scope stmt.name ≡ None → IsTyped scope stmt typed → SuitsStatement scope typed
-statement_suits (made_declaration p q name made) new (is_typed r s n what) = suits_declaration r s new (shape_suits made what)
-statement_suits (made_do p made) new (is_typed r s n (is_do d)) = suits_do r (doing_suits d)
+-- a declared name is new
+declared_new : (scope : Scope) (name : Text) {what : Shape} → MadeDeclaration what → IsNew scope name what → kind_of_name scope name ≡ None
+declared_new scope name (made_set made) new = new
+declared_new scope name (made_param made) new = new
+declared_new scope name (made_var limits_kept b made limits priority startval) new = new
+declared_new scope name (made_goal maximize made) new = new
+declared_new scope name (made_subto made) new = new
+declared_new scope name (made_definition _ parameters is made) new = new
+
+pub statement_suits : {scope : Scope} {stmt : Stmt} {typed : TStmt} → MadeStatement stmt → IsNew scope stmt.name stmt.shape → IsTyped scope stmt typed → SuitsStatement scope typed
+statement_suits {scope} (made_declaration p q name made) new (is_typed r s n what) = suits_declaration r s (declared_new scope name made new) (shape_suits made what)
+statement_suits {scope} (made_do p made) new (is_typed r s n (is_do d)) = suits_do r (doing_suits d)

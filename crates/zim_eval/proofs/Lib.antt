@@ -1,0 +1,9 @@
+mod BindingLemmas
+mod CallLemmas
+mod FirstLemmas
+mod FollowLemmas
+mod FormLemmas
+mod GatherLemmas
+mod IndexLemmas
+mod LoopLemmas
+mod WorldLemmas

@@ -1,0 +1,13 @@
+-- The entry stands at the end.
+use Rattle.std.proofs.Common.{◌∙◌, nat_eq}
+use Rattle.std.specs.Cmp.Lexicographic.{pointwise}
+use Rattle.indexmap.proofs.CallerLemmas.{insert_entry-new}
+use Rattle.zim_eval.specs.contracts.world.World.{the_view}
+use Rattle.zim_eval.proofs.WorldLemmas.{sets_with}
+use Rattle.zim_eval.proofs.world.World.add_set.Goals as goal
+
+pub returns-clause-ok : goal.returns-clause-ok
+returns-clause-ok c =
+    rw (← c.self.view_is)
+    (sets_with (the_view c.self.inside) c.insert.new.self.entries c.args.name c.args.set
+    (c.in_ok-insert.ensures.entries ∙ insert_entry-new (pointwise nat_eq) c.self.inside.sets c.args.name c.args.set (rw (← c.self.view_is) at c.requires)))

@@ -1,0 +1,3 @@
+pub mod Causes
+-- for private contracts alone
+pub mod Private

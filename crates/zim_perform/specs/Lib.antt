@@ -1,0 +1,3 @@
+pub mod Performing
+-- for private contracts alone
+pub mod Private

@@ -1,0 +1,4 @@
+mod CodeLemmas
+mod WordLemmas
+mod PartLemmas
+mod ConditionLemmas

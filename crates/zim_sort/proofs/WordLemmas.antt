@@ -1,0 +1,183 @@
+-- Which words are `vabs` and `sum`.
+use Rattle.std.proofs.Common.{◌≡◌, List, [], ◌∷◌, map, Option, Some, None, option_map, if◌then◌else◌, refl}
+use Rattle.zim_fault.specs.declared.faults.Place.{Place}
+use Rattle.zim_fault.specs.declared.words.Word.{Word}
+use Rattle.zim_fault.specs.declared.words.Word.TheVariants.{WSet, WParam, WVar, WMinimize, WMaximize, WSubto, WDefnumb, WDefstrg, WDefbool, WDefset, WDo, WPrint, WCheck, WForall, WSum, WProd, WMin, WMax, WArgmin, WArgmax, WIf, WThen, WElse, WEnd, WVif, WVabs, WAnd, WOr, WXor, WNot, WIn, WWith, WTo, WBy, WUnion, WInter, WCross, WWithout, WSymdiff, WMod, WDiv, WRead, WAs, WSkip, WUse, WComment, WDefault, WBinary, WInteger, WReal, WInfinity, WPriority, WStartval, WTrue, WFalse, WProj, WPowerset, WSubsets, WIndexset, WAbs, WSgn, WFloor, WCeil, WRound, WCard, WOrd, WLength, WSubstr, WInclude, WRandom, WSqrt, WLog, WLn, WExp, WMatch, WSos, WImplicit, WExists, WScale, WSeparate, WCheckonly, WIndicator}
+use Rattle.zim_tree.specs.declared.expr.Expr.{Expr}
+use Rattle.zim_typed.specs.declared.constant.Loop.{Loop}
+use Rattle.zim_typed.specs.declared.constraint.Term.{Term}
+use Rattle.zim_typed.specs.declared.constraint.Term.TheVariants as term
+use Rattle.zim_typing.specs.Typing.{absolute_term, summation}
+use Rattle.zim_sort.specs.Parts.{absolute_operand, is_summation}
+
+-- the absolute value is that of the operand
+pub absolute_is : (f : Expr → Term) (place : Place) (word : Word) (given : List Expr) → absolute_term word place (map f given) ≡ option_map (λ (e : Expr). term.Abs place (f e)) (absolute_operand word given)
+absolute_is f place WSet given = refl
+absolute_is f place WParam given = refl
+absolute_is f place WVar given = refl
+absolute_is f place WMinimize given = refl
+absolute_is f place WMaximize given = refl
+absolute_is f place WSubto given = refl
+absolute_is f place WDefnumb given = refl
+absolute_is f place WDefstrg given = refl
+absolute_is f place WDefbool given = refl
+absolute_is f place WDefset given = refl
+absolute_is f place WDo given = refl
+absolute_is f place WPrint given = refl
+absolute_is f place WCheck given = refl
+absolute_is f place WForall given = refl
+absolute_is f place WSum given = refl
+absolute_is f place WProd given = refl
+absolute_is f place WMin given = refl
+absolute_is f place WMax given = refl
+absolute_is f place WArgmin given = refl
+absolute_is f place WArgmax given = refl
+absolute_is f place WIf given = refl
+absolute_is f place WThen given = refl
+absolute_is f place WElse given = refl
+absolute_is f place WEnd given = refl
+absolute_is f place WVif given = refl
+absolute_is f place WVabs [] = refl
+absolute_is f place WVabs (e ∷ []) = refl
+absolute_is f place WVabs (e ∷ d ∷ given) = refl
+absolute_is f place WAnd given = refl
+absolute_is f place WOr given = refl
+absolute_is f place WXor given = refl
+absolute_is f place WNot given = refl
+absolute_is f place WIn given = refl
+absolute_is f place WWith given = refl
+absolute_is f place WTo given = refl
+absolute_is f place WBy given = refl
+absolute_is f place WUnion given = refl
+absolute_is f place WInter given = refl
+absolute_is f place WCross given = refl
+absolute_is f place WWithout given = refl
+absolute_is f place WSymdiff given = refl
+absolute_is f place WMod given = refl
+absolute_is f place WDiv given = refl
+absolute_is f place WRead given = refl
+absolute_is f place WAs given = refl
+absolute_is f place WSkip given = refl
+absolute_is f place WUse given = refl
+absolute_is f place WComment given = refl
+absolute_is f place WDefault given = refl
+absolute_is f place WBinary given = refl
+absolute_is f place WInteger given = refl
+absolute_is f place WReal given = refl
+absolute_is f place WInfinity given = refl
+absolute_is f place WPriority given = refl
+absolute_is f place WStartval given = refl
+absolute_is f place WTrue given = refl
+absolute_is f place WFalse given = refl
+absolute_is f place WProj given = refl
+absolute_is f place WPowerset given = refl
+absolute_is f place WSubsets given = refl
+absolute_is f place WIndexset given = refl
+absolute_is f place WAbs given = refl
+absolute_is f place WSgn given = refl
+absolute_is f place WFloor given = refl
+absolute_is f place WCeil given = refl
+absolute_is f place WRound given = refl
+absolute_is f place WCard given = refl
+absolute_is f place WOrd given = refl
+absolute_is f place WLength given = refl
+absolute_is f place WSubstr given = refl
+absolute_is f place WInclude given = refl
+absolute_is f place WRandom given = refl
+absolute_is f place WSqrt given = refl
+absolute_is f place WLog given = refl
+absolute_is f place WLn given = refl
+absolute_is f place WExp given = refl
+absolute_is f place WMatch given = refl
+absolute_is f place WSos given = refl
+absolute_is f place WImplicit given = refl
+absolute_is f place WExists given = refl
+absolute_is f place WScale given = refl
+absolute_is f place WSeparate given = refl
+absolute_is f place WCheckonly given = refl
+absolute_is f place WIndicator given = refl
+
+-- a sum over an index
+pub summation_is : (place : Place) (index : Loop) (t : Option Term) (word : Word) → summation word place index t ≡ (if is_summation word then option_map (λ (s : Term). term.SumOver place index s) t else None)
+summation_is place index t WSet = refl
+summation_is place index t WParam = refl
+summation_is place index t WVar = refl
+summation_is place index t WMinimize = refl
+summation_is place index t WMaximize = refl
+summation_is place index t WSubto = refl
+summation_is place index t WDefnumb = refl
+summation_is place index t WDefstrg = refl
+summation_is place index t WDefbool = refl
+summation_is place index t WDefset = refl
+summation_is place index t WDo = refl
+summation_is place index t WPrint = refl
+summation_is place index t WCheck = refl
+summation_is place index t WForall = refl
+summation_is place index t WSum = refl
+summation_is place index t WProd = refl
+summation_is place index t WMin = refl
+summation_is place index t WMax = refl
+summation_is place index t WArgmin = refl
+summation_is place index t WArgmax = refl
+summation_is place index t WIf = refl
+summation_is place index t WThen = refl
+summation_is place index t WElse = refl
+summation_is place index t WEnd = refl
+summation_is place index t WVif = refl
+summation_is place index t WVabs = refl
+summation_is place index t WAnd = refl
+summation_is place index t WOr = refl
+summation_is place index t WXor = refl
+summation_is place index t WNot = refl
+summation_is place index t WIn = refl
+summation_is place index t WWith = refl
+summation_is place index t WTo = refl
+summation_is place index t WBy = refl
+summation_is place index t WUnion = refl
+summation_is place index t WInter = refl
+summation_is place index t WCross = refl
+summation_is place index t WWithout = refl
+summation_is place index t WSymdiff = refl
+summation_is place index t WMod = refl
+summation_is place index t WDiv = refl
+summation_is place index t WRead = refl
+summation_is place index t WAs = refl
+summation_is place index t WSkip = refl
+summation_is place index t WUse = refl
+summation_is place index t WComment = refl
+summation_is place index t WDefault = refl
+summation_is place index t WBinary = refl
+summation_is place index t WInteger = refl
+summation_is place index t WReal = refl
+summation_is place index t WInfinity = refl
+summation_is place index t WPriority = refl
+summation_is place index t WStartval = refl
+summation_is place index t WTrue = refl
+summation_is place index t WFalse = refl
+summation_is place index t WProj = refl
+summation_is place index t WPowerset = refl
+summation_is place index t WSubsets = refl
+summation_is place index t WIndexset = refl
+summation_is place index t WAbs = refl
+summation_is place index t WSgn = refl
+summation_is place index t WFloor = refl
+summation_is place index t WCeil = refl
+summation_is place index t WRound = refl
+summation_is place index t WCard = refl
+summation_is place index t WOrd = refl
+summation_is place index t WLength = refl
+summation_is place index t WSubstr = refl
+summation_is place index t WInclude = refl
+summation_is place index t WRandom = refl
+summation_is place index t WSqrt = refl
+summation_is place index t WLog = refl
+summation_is place index t WLn = refl
+summation_is place index t WExp = refl
+summation_is place index t WMatch = refl
+summation_is place index t WSos = refl
+summation_is place index t WImplicit = refl
+summation_is place index t WExists = refl
+summation_is place index t WScale = refl
+summation_is place index t WSeparate = refl
+summation_is place index t WCheckonly = refl
+summation_is place index t WIndicator = refl

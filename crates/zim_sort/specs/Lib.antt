@@ -1,0 +1,3 @@
+pub mod Sorts
+-- for private contracts alone
+pub mod Parts

@@ -1,0 +1,5 @@
+pub mod Typing
+pub mod Numbers
+pub mod Statements
+pub mod StatementNumbers
+pub mod Law
