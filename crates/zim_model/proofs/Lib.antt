@@ -1,0 +1,4 @@
+mod TruthLemmas
+mod ColumnLemmas
+mod StatementLemmas
+mod StepLemmas

@@ -1,0 +1,4 @@
+pub mod Statements
+pub mod Encoded
+pub mod Progress
+pub mod Law
